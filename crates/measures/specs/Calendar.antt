@@ -1,0 +1,15 @@
+-- The three decades of a month.
+use mathlib.Core.Bool.{Bool, cond, _&&_}
+use Prim.Native.Nat.{ℕ}
+use lib.Dec.{leb}
+use Rattle.std.specs.declared.option.Option.{Option}
+use Rattle.std.specs.declared.option.Option.the-variants.{Some, None}
+use Rattle.measures.specs.declared.calendar.Decade.{Decade}
+use Rattle.measures.specs.declared.calendar.Decade.the-variants.{First, Second, Third}
+
+abbrev pub between : ℕ → ℕ → ℕ → Bool
+between a b n = leb a n && leb n b
+
+-- days 1 to 10, 11 to 20, and 21 to the last
+abbrev pub decade-of : ℕ → Option Decade
+decade-of day = cond (between 1 10 day) (Some First) (cond (between 11 20 day) (Some Second) (cond (between 21 31 day) (Some Third) None))

@@ -1,0 +1,4 @@
+pub mod Limits
+pub mod Rounding
+pub mod Held
+pub mod Calendar
