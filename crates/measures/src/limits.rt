@@ -6,7 +6,9 @@ use crate::volume::PeriodVolume;
 use crate::volume::Volume;
 
 const MOST_IN_QUARTER: u32 = 1_000_000;
+
 const MOST_IN_PERIOD: u32 = 10_000_000;
+
 const MOST_PRICE: i64 = 10_000_000;
 
 impl Volume {
