@@ -1,3 +1,4 @@
 pub mod Kept
+pub mod Products
 pub mod Rounds
 pub mod Sized

@@ -5,6 +5,7 @@ use native.Mathlib.Nat.{div-add-mod, mod-lt, mul-assoc, mul-comm, zero-mul, div-
 use native.Mathlib.Omega.{arith}
 use lib.IntN.{ℤ, pos, negsuc, _-ℤ_, _*ℤ_, negℤ, natAbs}
 use borrow.Author.Differences.{ints}
+use Rattle.measures.proofs.Products.{neg-size}
 use Rattle.measures.specs.Rounding.{nearest, rounded, Rounds, Quotients-are-rounded}
 
 nearest-near : (a n : ℕ) → 0 < n → (2 * (nearest a n * n) ≤ 2 * a + n) × (2 * a < 2 * (nearest a n * n) + n)
@@ -31,12 +32,8 @@ rounding (negsuc a) n h =
 pub nearest-within : (a n b : ℕ) → 0 < n → a ≤ b * n → nearest a n ≤ b
 nearest-within a n b h le =
     let turned : suc b * (2 * n) ≡ 2 * (b * n) + 2 * n = omega (arith, mul-assoc 2 b n, mul-comm 2 b) in
-    let under : (2 * a + n) / (2 * n) < suc b = div-lt-iff-lt-mul (omega arith) .1 (omega arith) in
+    let under : (2 * a + n) / (2 * n) < suc b = div-lt-iff-lt-mul {k = 2 * n} {x = 2 * a + n} {y = suc b} (omega arith) .1 (omega arith) in
     omega arith
-
-neg-size : (n : ℕ) → natAbs (negℤ (pos n)) ≡ n
-neg-size zero = refl
-neg-size (suc n) = refl
 
 pub rounded-within : (z : ℤ) (n b : ℕ) → 0 < n → natAbs z ≤ b * n → natAbs (rounded z n) ≤ b
 rounded-within (pos a) n b h le = nearest-within a n b h le

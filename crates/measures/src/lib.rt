@@ -1,6 +1,7 @@
 // Volumes, prices, money and energy, each a type of its own, with their rounding and their sums.
 pub mod amount;
 pub mod calendar;
+pub mod costs;
 pub mod energy;
 pub mod kinds;
 pub mod laws;

@@ -14,3 +14,9 @@ pub struct PeriodVolume {
     pub kwh: u32,
     ghost limited: { kwh ≤ 10000000 },
 }
+
+// The volume of several lines of a sheet together, in kWh.
+#[derive(Clone, Copy)]
+pub struct VolumeSum {
+    pub kwh: u32,
+}

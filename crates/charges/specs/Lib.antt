@@ -1,0 +1,4 @@
+pub mod Charges
+pub mod Totals
+pub mod Accounts
+pub mod Laws

@@ -1,0 +1,4 @@
+pub mod Volumes
+pub mod States
+pub mod Forming
+pub mod Laws

@@ -1,0 +1,2 @@
+// The prices of a settlement period.
+pub mod prices;
