@@ -1,4 +1,5 @@
 pub mod Kept
 pub mod Products
+pub mod Quotients
 pub mod Rounds
 pub mod Sized

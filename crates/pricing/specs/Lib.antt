@@ -1,0 +1,5 @@
+pub mod Cases
+pub mod Keys
+pub mod Prices
+pub mod Figures
+pub mod Entries

@@ -1,2 +1,7 @@
-// The prices of a settlement period.
+// The prices of a settlement period, over any history of prices.
+pub mod entries;
+pub mod keys;
+pub mod marginal;
+pub mod means;
+pub mod period;
 pub mod prices;

@@ -1,0 +1,5 @@
+use Rattle.price_history.proofs.Keyed.{key-is}
+use Rattle.price_history.proofs.key.PriceKey.new.Needs as need
+
+pub returns : need.returns
+returns c = key-is _
