@@ -72,8 +72,8 @@ module _ (d : Direction) (pick : Offer → Bool) where
   push ps o None t false e = all-push (λ x. pick x ≡ false) ps o t e
   push ps o None t true e = (
     all-push (λ x. pick x ≡ true → Inside d (x .price .kop) (o .price .kop)) ps o
-      (all-weaker (λ x. pick x ≡ false) (λ x. pick x ≡ true → Inside d (x .price .kop) (o .price .kop)) (λ x f g. clash (pick x) g f) ps t)
-      (λ _. inside-itself d (o .price .kop)),
+        (all-weaker (λ x. pick x ≡ false) (λ x. pick x ≡ true → Inside d (x .price .kop) (o .price .kop)) (λ x f g. clash (pick x) g f) ps t)
+        (λ _. inside-itself d (o .price .kop)),
     fresh d pick ps o e,
   )
   push ps o (Some p) t false e = (
@@ -82,11 +82,10 @@ module _ (d : Direction) (pick : Offer → Bool) where
   )
   push ps o (Some p) t true e =
       let top = outer d p (o .price) in
-      let out = is-outer d p (o .price) in
-      (
+      let out = is-outer d p (o .price) in (
         all-push (λ x. pick x ≡ true → Inside d (x .price .kop) (top .kop)) ps o
-          (all-weaker (λ x. pick x ≡ true → Inside d (x .price .kop) (p .kop)) (λ x. pick x ≡ true → Inside d (x .price .kop) (top .kop)) (λ x f g. inside-trans d _ _ _ (f g) (out .old)) ps (t .0))
-          (λ _. out .new),
+            (all-weaker (λ x. pick x ≡ true → Inside d (x .price .kop) (p .kop)) (λ x. pick x ≡ true → Inside d (x .price .kop) (top .kop)) (λ x f g. inside-trans d _ _ _ (f g) (out .old)) ps (t .0))
+            (λ _. out .new),
         outer-offered d pick ps o p e (t .1),
       )
 

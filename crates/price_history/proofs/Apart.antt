@@ -63,9 +63,10 @@ same-series LimitDown LimitDown m n h k e = refl
 
 -- numbers of two digits that are equal have equal digits
 same-digits : (c q r p s : ℕ) → r < c → s < c → q * c + r ≡ p * c + s → (q ≡ p) × (r ≡ s)
-same-digits c q r p s h k e =
-    (sym (digits-div q h) ∙ ap (λ n. n / c) e ∙ digits-div p k,
-     sym (digits-mod q h) ∙ ap (λ n. n % c) e ∙ digits-mod p k)
+same-digits c q r p s h k e = (
+  sym (digits-div q h) ∙ ap (λ n. n / c) e ∙ digits-div p k,
+  sym (digits-mod q h) ∙ ap (λ n. n % c) e ∙ digits-mod p k,
+)
 
 rank-is : (x : PriceKey) → rank-of x ≡ first-of (x .series) + place x
 rank-is x = omega arith

@@ -40,14 +40,14 @@ module _ {V : Type 0} where
   tallied-update f k w (suc n) lt =
       ⊎-elim
       (λ e.
-        let here : one (update eqb f k w n) ≡ one w = ap (λ z. one (update eqb f k w z)) (sym e) ∙ ap one (update-here f k w) in
-        let at : one (f k) ≡ one (f n) = ap (λ z. one (f z)) e in
-        let rest = tallied-same (update eqb f k w) f n (λ q l. update-apart f k w q (λ e2. omega arith)) in
-        omega (arith, here, at, rest))
+      let here : one (update eqb f k w n) ≡ one w = ap (λ z. one (update eqb f k w z)) (sym e) ∙ ap one (update-here f k w) in
+      let at : one (f k) ≡ one (f n) = ap (λ z. one (f z)) e in
+      let rest = tallied-same (update eqb f k w) f n (λ q l. update-apart f k w q (λ e2. omega arith)) in
+      omega (arith, here, at, rest))
       (λ ne.
-        let here : one (update eqb f k w n) ≡ one (f n) = ap one (update-apart f k w n (λ e. ne (sym e))) in
-        let rest = tallied-update f k w n (omega arith) in
-        omega (arith, here, rest))
+      let here : one (update eqb f k w n) ≡ one (f n) = ap one (update-apart f k w n (λ e. ne (sym e))) in
+      let rest = tallied-update f k w n (omega arith) in
+      omega (arith, here, rest))
       (cases-eq k n)
 
   -- a rank that shows nothing leaves room
@@ -57,7 +57,7 @@ module _ {V : Type 0} where
   tallied-room f k (suc n) lt e =
       ⊎-elim
       (λ same.
-        let none : one (f n) ≡ 0 = ap (λ z. one (f z)) (sym same) ∙ ap one e in
-        omega (arith, none, tallied-le f n))
+      let none : one (f n) ≡ 0 = ap (λ z. one (f z)) (sym same) ∙ ap one e in
+      omega (arith, none, tallied-le f n))
       (λ ne. let below : k < n = omega arith in omega (arith, one-le (f n), tallied-room f k n below e))
       (cases-eq k n)

@@ -12,6 +12,7 @@ use measures::price::Price;
 use measures::rounding::rounded_quotient;
 
 const DAYS_BACK: u16 = 90;
+
 const MOST_PRICES: u64 = 30;
 
 // Prices summed up, and how many they are.
@@ -42,7 +43,11 @@ fn gather_before<H: PriceHistory>(history: &H, key: PriceKey) -> Gathered
 {
     let mut total: i64 = 0;
     let mut count: u64 = 0;
-    let first = if key.day > DAYS_BACK { key.day - DAYS_BACK } else { 1 };
+    let first = if key.day > DAYS_BACK {
+        key.day - DAYS_BACK
+    } else {
+        1
+    };
     for day in (first..key.day).rev() {
         if count == MOST_PRICES {
             break;

@@ -6,6 +6,7 @@ use crate::key::PriceKey;
 use crate::series::Series;
 
 const ZONES: u16 = 2;
+
 const DAYS: u16 = 121;
 
 impl PriceKey {
@@ -22,7 +23,12 @@ impl PriceKey {
         if slot < 1 || slot > series.slots() {
             return None;
         }
-        Some(PriceKey { series, zone, day, slot })
+        Some(PriceKey {
+            series,
+            zone,
+            day,
+            slot,
+        })
     }
 
     // The place of the key in the order by series, zone, day and slot, from 0.

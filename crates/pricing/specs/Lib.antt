@@ -3,3 +3,4 @@ pub mod Keys
 pub mod Prices
 pub mod Figures
 pub mod Entries
+pub mod Worked

@@ -30,16 +30,28 @@ pub fn settlement_prices<H: PriceHistory>(
         State::Deficit => {
             let mean = mean_price_of(history, place, sheet, Direction::Up);
             let limit = price_of(history, place, sheet, Span::Period, Direction::Down);
-            SettlementPrices { imsp: mean, up: mean, down: limit }
+            SettlementPrices {
+                imsp: mean,
+                up: mean,
+                down: limit,
+            }
         }
         State::Surplus => {
             let mean = mean_price_of(history, place, sheet, Direction::Down);
             let limit = price_of(history, place, sheet, Span::Period, Direction::Up);
-            SettlementPrices { imsp: mean, up: limit, down: mean }
+            SettlementPrices {
+                imsp: mean,
+                up: limit,
+                down: mean,
+            }
         }
         State::Balanced => {
             let price = sheet.day_ahead;
-            SettlementPrices { imsp: price, up: price, down: price }
+            SettlementPrices {
+                imsp: price,
+                up: price,
+                down: price,
+            }
         }
     }
 }

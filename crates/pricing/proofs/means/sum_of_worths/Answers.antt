@@ -34,10 +34,11 @@ loop-quarter-again g c =
     let same = ap natAbs (c .loop-quarter .sum-is) in
     let most : natAbs (c .loop-quarter .sum) ≤ 960000000000000 * q = omega (arith, same, c .loop-quarter .inv .2) in
     let near : natAbs (c .loop-quarter .sum) ≤ 10000000 * volumes (q - 1) u = omega (arith, same, c .loop-quarter .inv .1) in
-    let e = stored _ (c .loop-quarter .sum) (c .worth-of-sum .result .mkop) (c .loop-quarter .sum-is) (omega arith) (omega arith) in
-    (e ∙ (λ i. (sym (c .loop-quarter .sum-is) ∙ c .loop-quarter .inv .0) i +ℤ c .worth-of-sum .ensures .value i) ∙ sym (up-to-more q f from),
-     size (c .loop-quarter .sum) (c .worth-of-sum .result .mkop) _ _ _ _ e near (c .worth-of-sum .ensures .bound) (volumes-more q u from),
-     omega (arith, ints))
+    let e = stored _ (c .loop-quarter .sum) (c .worth-of-sum .result .mkop) (c .loop-quarter .sum-is) (omega arith) (omega arith) in (
+      e ∙ (λ i. (sym (c .loop-quarter .sum-is) ∙ c .loop-quarter .inv .0) i +ℤ c .worth-of-sum .ensures .value i) ∙ sym (up-to-more q f from),
+      size (c .loop-quarter .sum) (c .worth-of-sum .result .mkop) _ _ _ _ e near (c .worth-of-sum .ensures .bound) (volumes-more q u from),
+      omega (arith, ints),
+    )
 
 pub returns : need.returns
 returns g c =
