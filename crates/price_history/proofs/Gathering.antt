@@ -1,7 +1,7 @@
 -- Going back day by day gathers the latest prices.
-use mathlib.Core.Path.{_≡_, refl, sym, ap, _∙_, subst}
+use mathlib.Core.Path.{_≡_, sym, ap, _∙_}
 use mathlib.Core.List.{List, [], _∷_}
-use Prim.Native.Nat.{ℕ, zero, suc, _+_, _*_, _-_, _≤_, _<_, min}
+use Prim.Native.Nat.{ℕ, suc, _+_, _*_, _-_, _≤_, _<_}
 use native.Mathlib.Omega.{arith}
 use lib.IntN.{ℤ, pos, _+ℤ_, natAbs}
 use lib.ListN.{length, take}
@@ -35,9 +35,8 @@ module _ (daily : ℕ → Option Price) (first day : ℕ) where
       ap (take (30 - count)) (back-by-one (Some price) lt e) ∙ ap (λ k. take k (price .kop ∷ shown-back daily (day - 1 - first) (day - 1))) n
 
 module _ (daily : ℕ → Option Price) (first day : ℕ) (all : List ℤ) (total : ℤ) (count : ℕ) where
-  pub gather-some : (price : Price) (next : ℤ) → first < day → Some price ≡ daily (day - 1) → (count ≡ 30 → ⊥) → next ≡ total +ℤ price .kop → Gathers daily first day all total count → Gathers daily first (day - 1) all next (count + 1)
-  gather-some price next lt e more is g =
-      let few : count < 30 = omega arith in
+  pub gather-some : (price : Price) (next : ℤ) → first < day → Some price ≡ daily (day - 1) → count < 30 → next ≡ total +ℤ price .kop → Gathers daily first day all total count → Gathers daily first (day - 1) all next (count + 1)
+  gather-some price next lt e few is g =
       let rest = one-found daily first day price count lt e few in
       let sums : sum (to-gather daily first day count) ≡ price .kop +ℤ sum (to-gather daily first (day - 1) (count + 1)) = ap sum rest in
       let counts : length (to-gather daily first day count) ≡ suc (length (to-gather daily first (day - 1) (count + 1))) = ap length rest in

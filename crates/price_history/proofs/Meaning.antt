@@ -1,9 +1,7 @@
 -- The rounded mean of prices is within the limit of a price.
-use mathlib.Core.Path.{_≡_, refl, sym, ap, _∙_}
+use mathlib.Core.Path.{_≡_, sym, ap, _∙_}
 use mathlib.Core.List.{List}
-use Prim.Native.Nat.{ℕ, zero, suc, _*_, _≤_}
-use native.Mathlib.Nat.{zero-lt-suc}
-use native.Mathlib.Omega.{arith}
+use Prim.Native.Nat.{ℕ, _*_, _≤_}
 use lib.IntN.{ℤ, natAbs}
 use lib.ListN.{length}
 use Rattle.std.specs.Options.{mapped}
@@ -11,20 +9,9 @@ use Rattle.std.specs.declared.option.Option.{Option}
 use Rattle.std.specs.declared.option.Option.the-variants.{Some, None}
 use Rattle.measures.specs.declared.price.Price.{Price}
 use Rattle.measures.specs.Limits.{price-of}
-use Rattle.measures.specs.Rounding.{rounded, quotient}
-use Rattle.measures.proofs.Kept.{within}
-use Rattle.measures.proofs.Rounds.{rounded-within}
+use Rattle.measures.specs.Rounding.{quotient}
+use Rattle.measures.proofs.Quotients.{quotient-is-price}
 use Rattle.price_history.specs.Means.{sum, mean}
-
-quotient-limited : (total : ℤ) (count : ℕ) (z : ℤ) → natAbs total ≤ 10000000 * count → Some z ≡ quotient total count → natAbs z ≤ 10000000
-quotient-limited total zero z le e = absurd (let no-way : _≡_ {A = ℕ} 0 1 = cc in omega arith)
-quotient-limited total (suc n) z le e =
-    let is : z ≡ rounded total (suc n) = cc in
-    let small = rounded-within total (suc n) 10000000 (zero-lt-suc n) le in
-    omega (arith, ap natAbs is)
-
-price-has : (z : ℤ) → natAbs z ≤ 10000000 → mapped (λ (price : Price). price .kop) (price-of z) ≡ Some z
-price-has z le = ap (mapped (λ (price : Price). price .kop)) (sym (within (natAbs z) 10000000 (λ kept. record { kop = z; limited = kept }) le))
 
 module _ (prices : List ℤ) (total : ℤ) (count : ℕ) (totalled : total ≡ sum prices) (counted : count ≡ length prices) where
   mean-is : quotient total count ≡ mean prices
@@ -36,4 +23,4 @@ module _ (prices : List ℤ) (total : ℤ) (count : ℕ) (totalled : total ≡ s
   pub mean-some : (r : Option Price) (dividend z kop : ℤ) → natAbs total ≤ 10000000 * count → kop ≡ z → r ≡ price-of kop → dividend ≡ total → Some z ≡ quotient dividend count → mapped (λ price. price .kop) r ≡ mean prices
   mean-some r dividend z kop le is made same e =
       let found : Some z ≡ quotient total count = e ∙ ap (λ n. quotient n count) same in
-      ap (mapped (λ (price : Price). price .kop)) (made ∙ ap price-of is) ∙ price-has z (quotient-limited total count z le found) ∙ found ∙ mean-is
+      ap (mapped (λ (price : Price). price .kop)) (made ∙ ap price-of is) ∙ quotient-is-price total count z le found ∙ mean-is

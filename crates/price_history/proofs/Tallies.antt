@@ -3,6 +3,7 @@ use mathlib.Core.Path.{_≡_, refl, sym, ap, _∙_}
 use mathlib.Core.Logic.{⊎-elim}
 use mathlib.Core.Bool.{cond}
 use Prim.Native.Nat.{ℕ, zero, suc, _+_, _≤_, _<_}
+use native.Mathlib.Numerals.{add-one}
 use native.Mathlib.Omega.{arith}
 use lib.Dec.{eqb}
 use Rattle.std.specs.Finite.{update}
@@ -20,6 +21,10 @@ module _ {V : Type 0} where
   pub one-le : (o : Option V) → one o ≤ 1
   one-le (Some x) = omega arith
   one-le None = omega arith
+
+  pub tallied-more : (f : ℕ → Option V) (n : ℕ) → tallied f (n + 1) ≡ tallied f n + one (f n)
+  unfolding tallied
+  tallied-more f n = ap (tallied f) (add-one n)
 
   pub tallied-same : (f g : ℕ → Option V) (n : ℕ) → ((q : ℕ) → q < n → f q ≡ g q) → tallied f n ≡ tallied g n
   unfolding tallied

@@ -1,9 +1,8 @@
-use mathlib.Core.Path.{_≡_, ap, _∙_}
-use Prim.Native.Nat.{_≤_, _-_, min}
-use borrow.Author.Needs.{needs}
+-- Going back day by day gathers the latest prices, and their sum fits.
+use mathlib.Core.Path.{ap, _∙_}
+use Prim.Native.Nat.{_≤_}
 use borrow.Author.Differences.{ints}
 use native.Mathlib.Omega.{arith}
-use Rattle.std.proofs.shelf.Signed.{toZ-ofZ}
 use Rattle.price_history.proofs.Gathering.{gather-start, gather-some, gather-none, gathered-full, gathered-back}
 use Rattle.price_history.proofs.mean.gather_before.Needs as need
 use Rattle.price_history.proofs.mean.gather_before.Needs.{then-key-gt-DAYS-BACK, else-key-gt-DAYS-BACK}
@@ -27,7 +26,7 @@ pub loop-day-again-in-Some : need.loop-day-again-in-Some
 loop-day-again-in-Some g c =
     gather-some _ _ _ _ _ (c .loop-day .count) (c .in-Some .price) _ (c .loop-day-test .taken)
     (c .in-Some .ensures tt ∙ ap (g .H·PriceHistory .view (c .args .history .now) .shown) (c .on-day .ensures))
-    (c .if-count-eq-MOST-PRICES .left) (let small = c .in-Some .price .limited in omega (arith, ints)) (c .loop-day .inv)
+    (omega (arith, c .if-count-eq-MOST-PRICES .left, c .loop-day .inv .few)) (let small = c .in-Some .price .limited in omega (arith, ints)) (c .loop-day .inv)
 
 pub loop-day-again : need.loop-day-again
 loop-day-again g c =
@@ -42,5 +41,5 @@ returns-after-loop-day g c =
 
 pub returns-then-count-eq-MOST-PRICES : need.returns-then-count-eq-MOST-PRICES
 returns-then-count-eq-MOST-PRICES g c =
-    let done = gathered-full _ _ _ _ _ (c .loop-day .count) (c .if-count-eq-MOST-PRICES .taken) (c .loop-day .inv) in
+    let done = gathered-full _ _ _ _ _ (c .loop-day .count) (omega (arith, c .if-count-eq-MOST-PRICES .taken)) (c .loop-day .inv) in
     record { total = done .0; count = done .1; limited = done .2 }

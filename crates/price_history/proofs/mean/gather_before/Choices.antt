@@ -1,3 +1,4 @@
+-- What was gathered makes up the latest prices with what is still to be gathered.
 use Rattle.price_history.specs.Means.{shown-daily, latest-before}
 use Rattle.price_history.proofs.Gathering.{Gathers}
 use Rattle.price_history.proofs.mean.gather_before.Given as given

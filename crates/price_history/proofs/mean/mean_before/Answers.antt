@@ -1,3 +1,4 @@
+-- The mean of the latest prices is a price, or none where there are none.
 use borrow.Author.Needs.{needs}
 use mir.Syntax.{w64}
 use mir.Val.{SFits}

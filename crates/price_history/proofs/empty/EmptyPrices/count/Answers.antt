@@ -1,3 +1,4 @@
+-- No price is shown at any rank.
 use mathlib.Core.Path.{sym}
 use Rattle.measures.specs.declared.price.Price.{Price}
 use Rattle.price_history.specs.Keys.{span}

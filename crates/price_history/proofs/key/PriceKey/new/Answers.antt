@@ -1,3 +1,4 @@
+-- Parts within their limits are those of a key.
 use Rattle.price_history.proofs.Keyed.{key-is}
 use Rattle.price_history.proofs.key.PriceKey.new.Needs as need
 
