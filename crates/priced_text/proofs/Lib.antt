@@ -1,0 +1,5 @@
+pub mod Joining
+pub mod Longest
+pub mod Pages
+pub mod Refused
+pub mod Placing

@@ -1,0 +1,3 @@
+// Tests of states, prices and the text of priced periods.
+#[cfg(test)]
+mod tests;

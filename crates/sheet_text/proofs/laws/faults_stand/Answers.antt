@@ -1,0 +1,5 @@
+use Rattle.sheet_text.proofs.Stands.{faults-stand}
+use Rattle.sheet_text.proofs.laws.faults_stand.Needs as need
+
+pub returns : need.returns
+returns c = faults-stand

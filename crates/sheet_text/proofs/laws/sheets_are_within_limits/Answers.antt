@@ -1,0 +1,5 @@
+use Rattle.sheet_text.proofs.Limited.{within-limits}
+use Rattle.sheet_text.proofs.laws.sheets_are_within_limits.Needs as need
+
+pub returns : need.returns
+returns c = within-limits

@@ -1,0 +1,10 @@
+pub mod Faults
+pub mod Values
+pub mod Lines
+pub mod Reading
+pub mod Reported
+pub mod Listing
+pub mod Standing
+pub mod Steps
+pub mod Onward
+pub mod Laws
