@@ -1,5 +1,3 @@
-pub mod Joining
 pub mod Longest
 pub mod Pages
 pub mod Refused
-pub mod Placing

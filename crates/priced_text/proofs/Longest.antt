@@ -46,8 +46,13 @@ count-length name n few =
 
 charge-length : (k n : ℕ) (z : ℤ) → 0 < k → n < 10 ^ k → n < 2 ^ 64 → natAbs z ≤ 10000000000000 → length (charge-line n z) ≤ k + 22
 charge-length k n z some digits fits small =
-    omega (arith, length-append (decimal n) (codes " " ++ (signed z ++ codes " mkop\n")), length-append (signed z) (codes " mkop\n"),
-    length-decimal-le k n some digits fits, signed-length 14 10000000000000 z small (omega arith) (omega arith))
+    omega (
+      arith,
+      length-append (decimal n) (codes " " ++ (signed z ++ codes " mkop\n")),
+      length-append (signed z) (codes " mkop\n"),
+      length-decimal-le k n some digits fits,
+      signed-length 14 10000000000000 z small (omega arith) (omega arith),
+    )
 
 joined-length : {X : Type 0} (f : X → List ℕ) (most : ℕ) (xs : List X) → All (λ x. length (f x) ≤ most) xs → length (joined f xs) ≤ most * length xs
 joined-length f most [] h = omega arith

@@ -108,5 +108,14 @@ module _ (p : Settled) (s : Figures) (l : Limited p) (h : Listed s) where
   pub page-length : (st : State) → length (page-text st p s) ≤ 935
   page-length st =
       let end = codes "END\n" in
-      omega (arith, length-append (state-line st) (prices-text p ++ (units-text p s ++ (groups-text p s ++ end))), length-append (prices-text p) (units-text p s ++ (groups-text p s ++ end)),
-      length-append (units-text p s) (groups-text p s ++ end), length-append (groups-text p s) end, state-length st, prices-length p (l .imsp) (l .up) (l .down), units-length, groups-length)
+      omega (
+        arith,
+        length-append (state-line st) (prices-text p ++ (units-text p s ++ (groups-text p s ++ end))),
+        length-append (prices-text p) (units-text p s ++ (groups-text p s ++ end)),
+        length-append (units-text p s) (groups-text p s ++ end),
+        length-append (groups-text p s) end,
+        state-length st,
+        prices-length p (l .imsp) (l .up) (l .down),
+        units-length,
+        groups-length,
+      )

@@ -1,11 +1,12 @@
 -- What pricing a text answers, and what it writes.
 use mathlib.Core.Bool.{cond}
-use mathlib.Core.List.{List, _++_}
+use mathlib.Core.List.{List}
 use Prim.Native.Nat.{ℕ}
 use lib.Dec.{ltb}
-use lib.ListN.{length, drop}
+use lib.ListN.{length}
 use Rattle.std.specs.declared.result.Result.{Result}
 use Rattle.std.specs.declared.result.Result.the-variants.{Ok, Err}
+use Rattle.text_buffer.specs.Texts.{placed}
 use Rattle.price_history.specs.Views.{View}
 use Rattle.sheet_text.specs.Reading.{Reported}
 use Rattle.sheet_text.specs.declared.faults.SheetFault.{SheetFault}
@@ -22,10 +23,6 @@ case-of view r = record { view = view; zone = r .zone; day = r .day; period = r 
 abbrev pub priced-answer : View → Result Reported SheetFault → ℕ → Result ℕ PricingRefusal
 priced-answer view (Err fault) room = Err (Text fault)
 priced-answer view (Ok r) room = cond (ltb room (length (priced-text (case-of view r)))) (Err OutputShort) (Ok (length (priced-text (case-of view r))))
-
--- the text at the front, and what was there behind it; all as it was where it does not fit
-abbrev pub placed : List ℕ → List ℕ → List ℕ
-placed text out = cond (ltb (length out) (length text)) out (text ++ drop (length text) out)
 
 abbrev pub priced-output : View → Result Reported SheetFault → List ℕ → List ℕ
 priced-output view (Err fault) out = out

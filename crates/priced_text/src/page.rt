@@ -50,14 +50,28 @@ fn put_units(page: &mut Page, prices: SettlementPrices, sheet: &Sheet) -> Result
     ensures { λ r. ⌜ Puts 935 (units-text (settled-of prices) (figures-of (now (sheet .entry)))) (written (now (page .entry))) (written (now (page .exit))) r ⌝ }
 {
     let sum = units_account(prices, zone_totals(sheet));
-    put_charged(page, b"UNITS ", prices, sheet.units.as_slice(), b"A-A ", sum)
+    put_charged(
+        page,
+        b"UNITS ",
+        prices,
+        sheet.units.as_slice(),
+        b"A-A ",
+        sum,
+    )
 }
 
 fn put_groups(page: &mut Page, prices: SettlementPrices, sheet: &Sheet) -> Result<(), NoRoom>
     ensures { λ r. ⌜ Puts 935 (groups-text (settled-of prices) (figures-of (now (sheet .entry)))) (written (now (page .entry))) (written (now (page .exit))) r ⌝ }
 {
     let sum = groups_account(prices, zone_totals(sheet));
-    put_charged(page, b"GROUPS ", prices, sheet.groups.as_slice(), b"A-B ", sum)
+    put_charged(
+        page,
+        b"GROUPS ",
+        prices,
+        sheet.groups.as_slice(),
+        b"A-B ",
+        sum,
+    )
 }
 
 pub(crate) fn put_page(

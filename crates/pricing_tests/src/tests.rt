@@ -15,7 +15,8 @@ use priced_text::refusal_line::write_refusal;
 use sheet_text::reading::read;
 use std::test::*;
 
-const SUBSTITUTED: &[u8] = b"PERIOD 1 1 1\nDAM 100 kop/MWh\nFORCED 0 kWh H\nOFFERS 2\n1 U 7 1000 kWh 900 kop/MWh C\n2 U 7 1000 kWh 200 kop/MWh -\nUNITS 1\n7 U 2000 kWh\nGROUPS 0\nEND\n";
+const SUBSTITUTED: &[u8] =
+    b"PERIOD 1 1 1\nDAM 100 kop/MWh\nFORCED 0 kWh H\nOFFERS 2\n1 U 7 1000 kWh 900 kop/MWh C\n2 U 7 1000 kWh 200 kop/MWh -\nUNITS 1\n7 U 2000 kWh\nGROUPS 0\nEND\n";
 
 fn state_of(text: &[u8], span: Span) -> Option<State> {
     let Ok(report) = read(text) else {
@@ -38,7 +39,8 @@ fn prices_as<H: PriceHistory>(history: &H, text: &[u8], expected: &[u8]) -> Resu
 
 #[test]
 fn forced_reduction_is_of_the_whole_period() -> Result<(), Fail> {
-    let text = b"PERIOD 1 1 1\nDAM 1 kop/MWh\nFORCED 1200 kWh H\nOFFERS 2\n1 U 1 2000 kWh 1 kop/MWh -\n1 D 1 2500 kWh 1 kop/MWh -\nUNITS 0\nGROUPS 0\nEND\n";
+    let text =
+        b"PERIOD 1 1 1\nDAM 1 kop/MWh\nFORCED 1200 kWh H\nOFFERS 2\n1 U 1 2000 kWh 1 kop/MWh -\n1 D 1 2500 kWh 1 kop/MWh -\nUNITS 0\nGROUPS 0\nEND\n";
     check(state_of(text, Span::Quarter(1)) == Some(State::Surplus))?;
     check(state_of(text, Span::Quarter(2)) == Some(State::Deficit))?;
     check(state_of(text, Span::Period) == Some(State::Deficit))
@@ -98,7 +100,8 @@ fn output_may_be_just_long_enough() -> Result<(), Fail> {
 #[test]
 fn a_fault_is_told_in_a_line() -> Result<(), Fail> {
     let mut out = [b'.'; 30];
-    let text = b"PERIOD 1 3 17\nDAM 350000 kop/MWh\nFORCED 1200 kWh H\nOFFERS 2\n1 U 7 2000 kWh 400000 kop/MWh -\n1 D 4 1000001 kWh 300000 kop/MWh C\n";
+    let text =
+        b"PERIOD 1 3 17\nDAM 350000 kop/MWh\nFORCED 1200 kWh H\nOFFERS 2\n1 U 7 2000 kWh 400000 kop/MWh -\n1 D 4 1000001 kWh 300000 kop/MWh C\n";
     let Err(PricingRefusal::Text(fault)) = price_text(&EmptyHistory, text, &mut out) else {
         return Err(Fail::new("the text is not refused"));
     };

@@ -110,13 +110,15 @@ module _ (l : ℕ) where
       says-fixed l _ e _ _ _ refl
       (says-need l _ (price-field f) _ _ refl (λ p _.
       says-fixed l _ g _ _ _ refl
-      (says-need l _ (constraint-field h) _ _ refl (λ x _.
-      (record {
-        quarter = between 1 4 (number a) q hq;
-        unit = between 1 999 (number c) u hu;
-        volume = (volume-from 1 d v hv, v .limited);
-        price = p .limited;
-      }, tt)))))))))
+      (says-need l _ (constraint-field h) _ _ refl (λ x _. (
+        record {
+          quarter = between 1 4 (number a) q hq;
+          unit = between 1 999 (number c) u hu;
+          volume = (volume-from 1 d v hv, v .limited);
+          price = p .limited;
+        },
+        tt,
+      )))))))))
 
   unit-says : (before : ℕ) (a b c d : List ℕ) → Says l (λ u. Unit-within u × (before < u .unit)) (unit-line before l a b c d)
   unit-says before a b c d =

@@ -306,5 +306,5 @@ blank = record {
 pub faults-stand : Faults-stand
 faults-stand text other fault lines e here there =
     let same : Same (fault .fault .line) (record { line = 1; text = text }) (record { line = 1; text = other })
-        = record { number = refl; many = fault .fault .line; last = omega arith; lines = lines; here = here; there = there } in
+    = record { number = refl; many = fault .fault .line; last = omega arith; lines = lines; here = here; there = there } in
     subst (λ r. Faulty (fault .fault .line) r (reading other)) e (period-sound blank .faulty (fault .fault .line) (record { line = 1; text = text }) (record { line = 1; text = other }) same) (omega arith)

@@ -48,7 +48,7 @@ impl<'a> Cursor<'a> {
         requires room { ⌜ count ≤ N ⌝ }
         ensures { λ r. ⌜ Cases r
             (λ xs. (entries (T·Entry .says) (T·Entry .order) count 0 [] (left (now (self .entry))) ≡ Ok (listed xs, left (now (self .exit))))
-                × (now (self .exit) .line ≡ now (self .entry) .line + count))
+            × (now (self .exit) .line ≡ now (self .entry) .line + count))
             (λ e. entries (T·Entry .says) (T·Entry .order) count 0 [] (left (now (self .entry))) ≡ Err e) ⌝ }
     {
         let first = self.line;

@@ -81,7 +81,7 @@ impl Draft {
     pub(crate) fn take_line(&mut self, line: u32, fields: Fields<'_>) -> Result<u32, LineFault>
         ensures { λ r. ⌜ Cases r
             (λ n. (step (now (self .entry) .stage) (plain (now (self .entry) .report)) line (listing (fields .entry)) ≡ Ok (plain (now (self .exit) .report), n))
-                × (now (self .exit) .stage ≡ next-stage (now (self .entry) .stage)) × (n ≤ most-entries (now (self .entry) .stage)))
+            × (now (self .exit) .stage ≡ next-stage (now (self .entry) .stage)) × (n ≤ most-entries (now (self .entry) .stage)))
             (λ e. step (now (self .entry) .stage) (plain (now (self .entry) .report)) line (listing (fields .entry)) ≡ Err e) ⌝ }
     {
         let (next, count) = match (self.stage, fields) {
@@ -98,13 +98,22 @@ impl Draft {
                 (Stage::Offers, 0)
             }
             (Stage::Offers, Fields::Two(keyword, count)) => {
-                (Stage::Units, count_line(line, keyword, count, b"OFFERS", MOST_OFFERS)?)
+                (
+                    Stage::Units,
+                    count_line(line, keyword, count, b"OFFERS", MOST_OFFERS)?,
+                )
             }
             (Stage::Units, Fields::Two(keyword, count)) => {
-                (Stage::Groups, count_line(line, keyword, count, b"UNITS", MOST_UNITS)?)
+                (
+                    Stage::Groups,
+                    count_line(line, keyword, count, b"UNITS", MOST_UNITS)?,
+                )
             }
             (Stage::Groups, Fields::Two(keyword, count)) => {
-                (Stage::End, count_line(line, keyword, count, b"GROUPS", MOST_GROUPS)?)
+                (
+                    Stage::End,
+                    count_line(line, keyword, count, b"GROUPS", MOST_GROUPS)?,
+                )
             }
             (Stage::End, Fields::One(keyword)) => {
                 end_line(line, keyword)?;

@@ -50,7 +50,12 @@ const WRONG: [Wrong; 112] = [
     Wrong(2, "DAM -05 kop/MWh", 2, 2),
     Wrong(2, "DAM 00 kop/MWh", 2, 2),
     Wrong(2, "DAM 5.0 kop/MWh", 2, 2),
-    Wrong(2, "DAM 99999999999999999999999999999999999999 kop/MWh", 2, 2),
+    Wrong(
+        2,
+        "DAM 99999999999999999999999999999999999999 kop/MWh",
+        2,
+        2,
+    ),
     Wrong(2, "DAM 350000 kop", 3, 3),
     Wrong(2, "DAM 350000 kop/mwh", 3, 3),
     Wrong(3, "FORCED 1200 kWh", 1, 0),
@@ -167,8 +172,22 @@ const BEHIND: [Behind; 14] = [
     Behind(0, "\0", 1, 1, 0, "HEAD"),
     Behind(0, "END\n", 1, 1, 0, "HEAD"),
     Behind(1, "\n", 1, 2, 0, "HEAD"),
-    Behind(3, "OFFERS 1\n1 U 7 2 kWh 4 kop/MWh -\n1 U 7 2 kWh 4 kop/MWh -\n", 1, 6, 0, "UNITS"),
-    Behind(3, "OFFERS 2\n1 U 7 2 kWh 4 kop/MWh -\nUNITS 0\n", 1, 6, 0, "OFFERS"),
+    Behind(
+        3,
+        "OFFERS 1\n1 U 7 2 kWh 4 kop/MWh -\n1 U 7 2 kWh 4 kop/MWh -\n",
+        1,
+        6,
+        0,
+        "UNITS",
+    ),
+    Behind(
+        3,
+        "OFFERS 2\n1 U 7 2 kWh 4 kop/MWh -\nUNITS 0\n",
+        1,
+        6,
+        0,
+        "OFFERS",
+    ),
     Behind(3, "OFFERS 0\nGROUPS 0\n", 4, 5, 1, "UNITS"),
     Behind(6, "UNITS 1\n4 D 500 kWh\n7 U 2000 kWh\n", 1, 9, 0, "GROUPS"),
     Behind(6, "UNITS 0\nUNITS 0\n", 4, 8, 1, "GROUPS"),
@@ -195,7 +214,13 @@ fn refuses(text: &str, kind: u8, line: u32, field: u32, section: &str) -> Result
 fn wrong_lines_are_refused(rt: LibcRuntime) -> Result<(), Fail> {
     for wrong in &WRONG {
         let text = with_line(rt.alloc(), wrong.0, wrong.1)?;
-        refuses(text.as_str(), wrong.2, wrong.0, wrong.3, section_of(wrong.0)).note(wrong.1)?;
+        refuses(
+            text.as_str(),
+            wrong.2,
+            wrong.0,
+            wrong.3,
+            section_of(wrong.0),
+        ).note(wrong.1)?;
     }
     Ok(())
 }
@@ -271,9 +296,20 @@ fn the_entries_are_read(rt: LibcRuntime) -> Result<(), Fail> {
     let [first, second] = report.sheet.offers.as_slice() else {
         return Err(Fail::new("there are not two offers"));
     };
-    check_eq((first.quarter, first.unit, first.volume.kwh, first.price.kop), (1, 7, 2000, 400_000))?;
+    check_eq(
+        (first.quarter, first.unit, first.volume.kwh, first.price.kop),
+        (1, 7, 2000, 400_000),
+    )?;
     check(first.direction == Direction::Up && !first.constrained)?;
-    check_eq((second.quarter, second.unit, second.volume.kwh, second.price.kop), (1, 4, 500, 300_000))?;
+    check_eq(
+        (
+            second.quarter,
+            second.unit,
+            second.volume.kwh,
+            second.price.kop,
+        ),
+        (1, 4, 500, 300_000),
+    )?;
     check(second.direction == Direction::Down && second.constrained)?;
     let [first, second] = report.sheet.units.as_slice() else {
         return Err(Fail::new("there are not two units"));

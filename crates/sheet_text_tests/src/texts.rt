@@ -33,7 +33,11 @@ pub fn section_of(line: u32) -> &'static str {
 pub fn with_line(heap: Global, number: u32, line: &str) -> Result<String, AllocError> {
     let mut text = String::new(heap);
     for (index, good) in GOOD.iter().enumerate() {
-        let line = if index + 1 == number as usize { line } else { *good };
+        let line = if index + 1 == number as usize {
+            line
+        } else {
+            *good
+        };
         text.push_str(line)?;
         text.push_str("\n")?;
     }
@@ -69,11 +73,41 @@ pub fn cut_short(heap: Global, count: u32) -> Result<String, AllocError> {
 
 // The lines of units 10 to 25 and of parties 49 to 64 begin so.
 const UNITS: [&str; 16] = [
-    "10", "11", "12", "13", "14", "15", "16", "17", "18", "19", "20", "21", "22", "23", "24", "25",
+    "10",
+    "11",
+    "12",
+    "13",
+    "14",
+    "15",
+    "16",
+    "17",
+    "18",
+    "19",
+    "20",
+    "21",
+    "22",
+    "23",
+    "24",
+    "25",
 ];
 
 const PARTIES: [&str; 16] = [
-    "49", "50", "51", "52", "53", "54", "55", "56", "57", "58", "59", "60", "61", "62", "63", "64",
+    "49",
+    "50",
+    "51",
+    "52",
+    "53",
+    "54",
+    "55",
+    "56",
+    "57",
+    "58",
+    "59",
+    "60",
+    "61",
+    "62",
+    "63",
+    "64",
 ];
 
 fn push_all(text: &mut String, numbers: &[&str], rest: &str) -> Result<(), AllocError> {

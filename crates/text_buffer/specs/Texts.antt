@@ -1,10 +1,10 @@
 -- The text that a buffer holds, and texts written after it.
 use mathlib.Core.Path.{_≡_}
-use mathlib.Core.Bool.{true}
+use mathlib.Core.Bool.{true, cond}
 use mathlib.Core.List.{List, _++_}
 use Prim.Native.Nat.{ℕ, _+_}
-use lib.Dec.{leb}
-use lib.ListN.{length, take}
+use lib.Dec.{leb, ltb}
+use lib.ListN.{length, take, drop}
 use Rattle.std.specs.Results.{isOk}
 use Rattle.std.specs.declared.result.Result.{Result}
 use Rattle.text_buffer.specs.declared.buffer.TextBuffer.{TextBuffer}
@@ -18,3 +18,7 @@ module _ {N : ℕ} where
 pub record Puts {X E : Type 0} (N : ℕ) (text before later : List ℕ) (r : Result X E) : Type 0 where
   pub fits : isOk r ≡ leb (length before + length text) N
   pub after : isOk r ≡ true → later ≡ before ++ text
+
+-- a text at the front of an output, and what was there behind it; all as it was where the text does not fit
+abbrev pub placed : List ℕ → List ℕ → List ℕ
+placed text out = cond (ltb (length out) (length text)) out (text ++ drop (length text) out)

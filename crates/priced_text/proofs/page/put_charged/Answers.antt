@@ -6,7 +6,7 @@ use lib.ListN.{length}
 use Rattle.std.specs.Joined.{joined}
 use Rattle.pricing.specs.Figures.{settled-of}
 use Rattle.priced_text.specs.Lines.{count-line, charge-line, money-line}
-use Rattle.priced_text.proofs.Joining.{both-put, first-refused}
+use Rattle.text_buffer.proofs.Joining.{both-put, first-refused}
 use Rattle.priced_text.proofs.page.put_charged.Needs as need
 
 pub returns-in-Break-put-count : need.returns-in-Break-put-count

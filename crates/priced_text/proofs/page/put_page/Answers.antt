@@ -8,7 +8,7 @@ use Rattle.pricing.specs.Figures.{settled-of}
 use Rattle.pricing.specs.Prices.{Settled}
 use Rattle.priced_text.specs.Lines.{state-line}
 use Rattle.priced_text.specs.Priced.{prices-text, units-text, groups-text}
-use Rattle.priced_text.proofs.Joining.{both-put, first-refused, put-whole}
+use Rattle.text_buffer.proofs.Joining.{both-put, first-refused, put-whole}
 use Rattle.priced_text.proofs.page.put_page.Needs as need
 
 -- what is left to be put after each part

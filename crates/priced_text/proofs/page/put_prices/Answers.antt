@@ -5,7 +5,7 @@ use Prim.Native.Nat.{ℕ}
 use lib.Chars.{codes}
 use Rattle.pricing.specs.declared.prices.SettlementPrices.{SettlementPrices}
 use Rattle.priced_text.specs.Lines.{price-line}
-use Rattle.priced_text.proofs.Joining.{both-put, first-refused}
+use Rattle.text_buffer.proofs.Joining.{both-put, first-refused}
 use Rattle.priced_text.proofs.page.put_prices.Needs as need
 
 abbrev imsp : SettlementPrices → List ℕ

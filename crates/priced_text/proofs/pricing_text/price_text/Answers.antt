@@ -21,7 +21,7 @@ use Rattle.priced_text.specs.Answers.{priced-answer, priced-output}
 use Rattle.priced_text.specs.declared.refusal.PricingRefusal.{PricingRefusal}
 use Rattle.priced_text.specs.declared.refusal.PricingRefusal.the-variants.{OutputShort}
 use Rattle.priced_text.proofs.Pages.{Limited, Listed, page-length}
-use Rattle.priced_text.proofs.Placing.{never-refused, ok-answer, short-answer, copied}
+use Rattle.text_buffer.proofs.Placing.{never-refused, ok-answer, short-answer, copied}
 use Rattle.priced_text.proofs.pricing_text.price_text.Needs as need
 
 pub returns-in-Break-put-page : need.returns-in-Break-put-page

@@ -1,7 +1,7 @@
 use borrow.Author.Needs.{needs}
 use mathlib.Core.Path.{refl}
 use Rattle.priced_text.specs.Refusals.{number-part, place-part}
-use Rattle.priced_text.proofs.Joining.{both-put, first-refused}
+use Rattle.text_buffer.proofs.Joining.{both-put, first-refused}
 use Rattle.priced_text.proofs.refusal_line.put_refusal.Needs as need
 
 pub returns-in-Break-put-number : need.returns-in-Break-put-number

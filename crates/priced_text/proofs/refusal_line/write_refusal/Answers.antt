@@ -9,7 +9,7 @@ use lib.ListN.{length}
 use Rattle.std.specs.declared.option.Option.the-variants.{Some, None}
 use Rattle.text_buffer.specs.Texts.{written}
 use Rattle.priced_text.specs.Refusals.{refusal-line}
-use Rattle.priced_text.proofs.Placing.{never-refused, copied}
+use Rattle.text_buffer.proofs.Placing.{never-refused, copied}
 use Rattle.priced_text.proofs.Refused.{refusal-length}
 use Rattle.priced_text.proofs.refusal_line.write_refusal.Needs as need
 

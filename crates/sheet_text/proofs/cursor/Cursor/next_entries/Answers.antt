@@ -34,12 +34,11 @@ loop-index-again g c =
     let said = line-said (g .T·Entry .says (c .loop-index .before)) (g .T·Entry·met .counts (c .loop-index .before)) (left (c .loop-index .self)) (listing (c .in-Continue-fields .fields)) (left (c .next-fields .last .self)) (c .in-Continue-fields .ensures tt) _ (sym (c .loop-index .inv .0)) (c .in-Continue-entry .entry) (sym (c .in-Continue-entry .ensures tt)) in
     let more = entries-more (g .T·Entry .says) (g .T·Entry .order) (c .args .count) (c .loop-index .index) (c .loop-index .before) (listed (c .loop-index .found)) (left (c .loop-index .self)) (omega arith) (c .in-Continue-entry .entry) (left (c .next-fields .last .self)) said in
     let room = c .push .ensures .room ∙ lt-ltb (length (listed (c .loop-index .found))) _ (search needs) in
-    let pushed = c .push .ensures .after ∙ cond-true (c .push .result) _ _ room in
-    (
-        omega arith,
-        ap length pushed ∙ length-push (listed (c .loop-index .found)) (c .in-Continue-entry .entry) ∙ ap (λ n. n + 1) (c .loop-index .inv .1),
-        ap (λ b. entries (g .T·Entry .says) (g .T·Entry .order) (c .args .count - (c .loop-index .index + 1)) b (listed (c .push .last .self)) (left (c .next-fields .last .self))) (c .number-before .ensures)
-        ∙ ap (λ xs. entries (g .T·Entry .says) (g .T·Entry .order) (c .args .count - (c .loop-index .index + 1)) (g .T·Entry .order (c .in-Continue-entry .entry)) xs (left (c .next-fields .last .self))) pushed
-        ∙ sym more
-        ∙ c .loop-index .inv .2,
+    let pushed = c .push .ensures .after ∙ cond-true (c .push .result) _ _ room in (
+      omega arith,
+      ap length pushed ∙ length-push (listed (c .loop-index .found)) (c .in-Continue-entry .entry) ∙ ap (λ n. n + 1) (c .loop-index .inv .1),
+      ap (λ b. entries (g .T·Entry .says) (g .T·Entry .order) (c .args .count - (c .loop-index .index + 1)) b (listed (c .push .last .self)) (left (c .next-fields .last .self))) (c .number-before .ensures)
+          ∙ ap (λ xs. entries (g .T·Entry .says) (g .T·Entry .order) (c .args .count - (c .loop-index .index + 1)) (g .T·Entry .order (c .in-Continue-entry .entry)) xs (left (c .next-fields .last .self))) pushed
+          ∙ sym more
+          ∙ c .loop-index .inv .2,
     )

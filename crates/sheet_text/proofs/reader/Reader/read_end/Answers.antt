@@ -26,9 +26,8 @@ pub returns : need.returns
 returns c =
     let took = c .in-Continue-take-line .ensures tt in
     let at = took .1 ∙ ap next-stage (c .pre .0) in
-    let done = end-reached (c .args .self .now) (c .pre .0) (c .take-line .last .self) _ took (sym (c .in-Continue-finish .ensures tt)) in
-    (
-        ap (λ (x : Stage). from-stage x (plain (c .take-line .last .self .draft .report)) (left (c .take-line .last .self .cursor))) at ∙ sym done,
-        at,
-        omega (arith, took .3, c .pre .1),
+    let done = end-reached (c .args .self .now) (c .pre .0) (c .take-line .last .self) _ took (sym (c .in-Continue-finish .ensures tt)) in (
+      ap (λ (x : Stage). from-stage x (plain (c .take-line .last .self .draft .report)) (left (c .take-line .last .self .cursor))) at ∙ sym done,
+      at,
+      omega (arith, took .3, c .pre .1),
     )

@@ -32,9 +32,8 @@ returns c =
     let entries = c .in-Continue-self .ensures tt in
     let at = took .1 ∙ ap next-stage (c .pre .0) in
     let few = ap most-entries (c .pre .0) in
-    let read = list-read (λ _. eight offer-line) (λ _. 0) "OFFERS" 24 section.Offers with-offers from-units stage.Offers (λ r s. refl) (λ r s. refl) (c .args .self .now) (c .pre .0) (c .take-line .last .self) (c .in-Continue-count .count) took (listed (c .in-Continue-self .field-0)) (left (c .next-entries .last .self)) (entries .0) in
-    (
-        ap (λ (x : Stage). from-stage x (with-offers (plain (c .take-line .last .self .draft .report)) (listed (c .in-Continue-self .field-0))) (left (c .next-entries .last .self))) at ∙ sym read,
-        at,
-        omega (arith, took .2, took .3, entries .1, c .pre .1, few),
+    let read = list-read (λ _. eight offer-line) (λ _. 0) "OFFERS" 24 section.Offers with-offers from-units stage.Offers (λ r s. refl) (λ r s. refl) (c .args .self .now) (c .pre .0) (c .take-line .last .self) (c .in-Continue-count .count) took (listed (c .in-Continue-self .field-0)) (left (c .next-entries .last .self)) (entries .0) in (
+      ap (λ (x : Stage). from-stage x (with-offers (plain (c .take-line .last .self .draft .report)) (listed (c .in-Continue-self .field-0))) (left (c .next-entries .last .self))) at ∙ sym read,
+      at,
+      omega (arith, took .2, took .3, entries .1, c .pre .1, few),
     )

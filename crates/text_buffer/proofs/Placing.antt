@@ -13,8 +13,7 @@ use Rattle.std.specs.declared.option.Option.the-variants.{Some, None}
 use Rattle.std.specs.declared.result.Result.{Result}
 use Rattle.std.specs.declared.result.Result.the-variants.{Ok, Err}
 use Rattle.std.proofs.shelf.Tests.{false≢true, le-leb, leb-true, leb-false, lt-ltb, le-ltb}
-use Rattle.text_buffer.specs.Texts.{Puts}
-use Rattle.priced_text.specs.Answers.{placed}
+use Rattle.text_buffer.specs.Texts.{Puts, placed}
 
 -- a text that fits an empty page is not refused
 pub never-refused : {X E : Type 0} (N : ℕ) {text before later : List ℕ} {r : Result X E} → before ≡ [] → length text ≤ N → isOk r ≡ false → Puts N text before later r → ⊥
