@@ -98,22 +98,16 @@ impl Draft {
                 (Stage::Offers, 0)
             }
             (Stage::Offers, Fields::Two(keyword, count)) => {
-                (
-                    Stage::Units,
-                    count_line(line, keyword, count, b"OFFERS", MOST_OFFERS)?,
-                )
+                let count = count_line(line, keyword, count, b"OFFERS", MOST_OFFERS)?;
+                (Stage::Units, count)
             }
             (Stage::Units, Fields::Two(keyword, count)) => {
-                (
-                    Stage::Groups,
-                    count_line(line, keyword, count, b"UNITS", MOST_UNITS)?,
-                )
+                let count = count_line(line, keyword, count, b"UNITS", MOST_UNITS)?;
+                (Stage::Groups, count)
             }
             (Stage::Groups, Fields::Two(keyword, count)) => {
-                (
-                    Stage::End,
-                    count_line(line, keyword, count, b"GROUPS", MOST_GROUPS)?,
-                )
+                let count = count_line(line, keyword, count, b"GROUPS", MOST_GROUPS)?;
+                (Stage::End, count)
             }
             (Stage::End, Fields::One(keyword)) => {
                 end_line(line, keyword)?;

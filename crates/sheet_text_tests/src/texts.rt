@@ -19,7 +19,7 @@ const GOOD: [&str; 13] = [
 ];
 
 // The section of a line of the sheet, or of what is put behind it.
-pub fn section_of(line: u32) -> &'static str {
+pub(crate) fn section_of(line: u32) -> &'static str {
     match line {
         0..=3 => "HEAD",
         4..=6 => "OFFERS",
@@ -30,7 +30,7 @@ pub fn section_of(line: u32) -> &'static str {
 }
 
 // The sheet with another line in the place of one.
-pub fn with_line(heap: Global, number: u32, line: &str) -> Result<String, AllocError> {
+pub(crate) fn with_line(heap: Global, number: u32, line: &str) -> Result<String, AllocError> {
     let mut text = String::new(heap);
     for (index, good) in GOOD.iter().enumerate() {
         let line = if index + 1 == number as usize {
@@ -45,7 +45,7 @@ pub fn with_line(heap: Global, number: u32, line: &str) -> Result<String, AllocE
 }
 
 // The first lines of the sheet, with what is put behind them.
-pub fn front(heap: Global, count: u32, behind: &str) -> Result<String, AllocError> {
+pub(crate) fn front(heap: Global, count: u32, behind: &str) -> Result<String, AllocError> {
     let mut text = String::new(heap);
     for (index, good) in GOOD.iter().enumerate() {
         if index < count as usize {
@@ -58,7 +58,7 @@ pub fn front(heap: Global, count: u32, behind: &str) -> Result<String, AllocErro
 }
 
 // The first lines of the sheet, the last of them without its line end.
-pub fn cut_short(heap: Global, count: u32) -> Result<String, AllocError> {
+pub(crate) fn cut_short(heap: Global, count: u32) -> Result<String, AllocError> {
     let mut text = String::new(heap);
     for (index, good) in GOOD.iter().enumerate() {
         if index < count as usize {
@@ -119,7 +119,7 @@ fn push_all(text: &mut String, numbers: &[&str], rest: &str) -> Result<(), Alloc
 }
 
 // A sheet with as many entries as there may be, and its last line.
-pub fn full(heap: Global, last: &str) -> Result<String, AllocError> {
+pub(crate) fn full(heap: Global, last: &str) -> Result<String, AllocError> {
     let head = "PERIOD 2 31 24\nDAM 0 kop/MWh\nFORCED 0 kWh H\nOFFERS 24\n";
     let mut text = String::from_str(heap, head)?;
     for _ in 0..24 {

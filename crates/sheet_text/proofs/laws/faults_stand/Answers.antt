@@ -1,3 +1,4 @@
+-- A fault stands whatever follows its line.
 use Rattle.sheet_text.proofs.Stands.{faults-stand}
 use Rattle.sheet_text.proofs.laws.faults_stand.Needs as need
 

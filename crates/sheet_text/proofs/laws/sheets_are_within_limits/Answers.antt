@@ -1,3 +1,4 @@
+-- What is read is within its limits.
 use Rattle.sheet_text.proofs.Limited.{within-limits}
 use Rattle.sheet_text.proofs.laws.sheets_are_within_limits.Needs as need
 

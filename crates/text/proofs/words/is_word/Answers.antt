@@ -1,3 +1,4 @@
+-- Two fields are the same word where all their bytes are.
 use borrow.Author.Needs.{needs}
 use Rattle.std.proofs.shelf.Equals.{matches-decides, sameBytes-decides}
 use Rattle.text.proofs.words.is_word.Needs as need
