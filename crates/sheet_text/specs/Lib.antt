@@ -7,4 +7,3 @@ pub mod Listing
 pub mod Standing
 pub mod Steps
 pub mod Onward
-pub mod Laws

@@ -5,7 +5,6 @@ mod entry;
 mod entry_lines;
 pub mod faults;
 mod fields;
-pub mod laws;
 mod lines;
 mod raised;
 mod reader;

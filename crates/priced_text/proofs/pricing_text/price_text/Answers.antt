@@ -10,8 +10,8 @@ use Rattle.std.specs.declared.result.Result.the-variants.{Ok, Err}
 use Rattle.sheet.specs.Figures.{figures-of}
 use Rattle.std.proofs.shelf.Elements.{all-weaker}
 use Rattle.sheet_text.specs.Reading.{Reported}
-use Rattle.sheet_text.specs.Laws.{Unit-within, Group-within}
-use Rattle.sheet_text.proofs.Limited.{within-limits}
+use Rattle.sheet_laws.specs.Laws.{Unit-within, Group-within}
+use Rattle.sheet_laws.proofs.Limited.{within-limits}
 use Rattle.sheet_text.specs.declared.faults.SheetFault.{SheetFault}
 use Rattle.pricing.specs.Cases.{case}
 use Rattle.pricing.specs.Figures.{settled-of}

@@ -20,10 +20,10 @@ use Rattle.measures.specs.declared.volume.Volume.{Volume}
 use Rattle.sheet.specs.declared.lines.Position.{Position}
 use Rattle.sheet.specs.declared.lines.Position.the-variants.{Surplus, Shortage}
 use Rattle.text.specs.Numbers.{number, within}
-use Rattle.sheet_text.specs.Laws.{Between, Offer-within, Unit-within, Group-within}
+use Rattle.sheet_laws.specs.Laws.{Between, Offer-within, Unit-within, Group-within}
 use Rattle.sheet_text.specs.Lines.{need, fixed, counted, one, two, three, four, eight, period-line, day-ahead-line, forced-line, count-line, offer-line, unit-line, group-line, end-line}
 use Rattle.sheet_text.specs.Values.{from, direction-field, position-field, constraint-field, volume-field, period-volume-field, price-field, imbalance-field}
 use Rattle.sheet_text.specs.declared.faults.LineFault.{LineFault}
 
 -- a line says something that is P, or has a fault that is its own
 abbrev pub Says : {A : Type 0} → ℕ → (A → Type 0) → Result A LineFault → Type 0

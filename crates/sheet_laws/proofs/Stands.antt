@@ -16,20 +16,20 @@ use Rattle.std.specs.declared.option.Option.the-variants.{Some, None}
 use Rattle.std.specs.declared.result.Result.{Result}
 use Rattle.std.specs.declared.result.Result.the-variants.{Ok, Err}
 use Rattle.text.specs.Cuts.{cut, parts}
 use Rattle.sheet_text.specs.Faults.{fault-at, fault-in}
-use Rattle.sheet_text.specs.Laws.{Offer-within, Unit-within, Group-within, first-lines, Faults-stand}
+use Rattle.sheet_laws.specs.Laws.{Offer-within, Unit-within, Group-within, first-lines, Faults-stand}
 use Rattle.sheet_text.specs.Lines.{one, two, three, four, eight, period-line, day-ahead-line, forced-line, count-line, offer-line, unit-line, group-line, end-line}
 use Rattle.sheet_text.specs.Onward.{from-period, from-day-ahead, from-forced, from-offers, from-units, from-groups, from-end, with-offers, with-units, with-groups}
 use Rattle.sheet_text.specs.Reading.{Left, Reported, then, line-of, a-line, entries, a-list, finished, inside, reading}
 use Rattle.sheet_text.specs.Steps.{with-place, with-day-ahead, with-forced}
 use Rattle.sheet_text.specs.Values.{from}
 use Rattle.sheet_text.specs.declared.faults.FaultKind.the-variants.{Layout}
 use Rattle.sheet_text.specs.declared.faults.LineFault.{LineFault}
 use Rattle.sheet_text.specs.declared.faults.Section.{Section}
 use Rattle.sheet_text.specs.declared.faults.Section.the-variants as section
 use Rattle.sheet_text.specs.declared.faults.SheetFault.{SheetFault}
 use Rattle.sheet_text.proofs.Entering.{beside}
-use Rattle.sheet_text.proofs.LineFacts.{Says, Place-within, period-fact, day-ahead-fact, forced-fact, count-fact, offer-fact, unit-fact, group-fact, end-fact}
+use Rattle.sheet_laws.proofs.LineFacts.{Says, Place-within, period-fact, day-ahead-fact, forced-fact, count-fact, offer-fact, unit-fact, group-fact, end-fact}
 
 -- what is left of two texts has the same lines up to the n-th
 record Same (n : ℕ) (s u : Left) : Type 0 where

@@ -18,17 +18,17 @@ use Rattle.sheet.specs.declared.lines.GroupLine.{GroupLine}
 use Rattle.sheet.specs.declared.lines.Offer.{Offer}
 use Rattle.sheet.specs.declared.lines.UnitLine.{UnitLine}
 use Rattle.text.specs.Cuts.{parts}
-use Rattle.sheet_text.specs.Laws.{Offer-within, Unit-within, Group-within, Rises, Within-limits, Sheets-are-within-limits}
+use Rattle.sheet_laws.specs.Laws.{Offer-within, Unit-within, Group-within, Rises, Within-limits, Sheets-are-within-limits}
 use Rattle.sheet_text.specs.Lines.{one, two, three, four, eight, period-line, day-ahead-line, forced-line, count-line, offer-line, unit-line, group-line}
 use Rattle.sheet_text.specs.Onward.{from-period, from-day-ahead, from-forced, from-offers, from-units, from-groups, from-end, with-offers, with-units, with-groups}
 use Rattle.sheet_text.specs.Reading.{Left, Reported, then, next-line, a-line, entries, a-list, the-end, inside}
 use Rattle.sheet_text.specs.Steps.{with-place, with-day-ahead, with-forced}
 use Rattle.sheet_text.specs.declared.faults.LineFault.{LineFault}
 use Rattle.sheet_text.specs.declared.faults.Section.{Section}
 use Rattle.sheet_text.specs.declared.faults.Section.the-variants as section
 use Rattle.sheet_text.specs.declared.faults.SheetFault.{SheetFault}
 use Rattle.sheet_text.proofs.Entering.{beside}
-use Rattle.sheet_text.proofs.LineFacts.{Says, Place-within, period-fact, day-ahead-fact, forced-fact, count-fact, offer-fact, unit-fact, group-fact}
+use Rattle.sheet_laws.proofs.LineFacts.{Says, Place-within, period-fact, day-ahead-fact, forced-fact, count-fact, offer-fact, unit-fact, group-fact}
 
 -- where something is read, it is P
 abbrev Gives : {A E : Type 0} → (A → Type 0) → Result A E → Type 0

@@ -1,5 +1,5 @@
 // What holds of every text.
-ghost use Rattle.sheet_text.specs.Laws.{Sheets-are-within-limits, Faults-stand};
+ghost use Rattle.sheet_laws.specs.Laws.{Sheets-are-within-limits, Faults-stand};
 
 pub fn sheets_are_within_limits() -> u8
     ensures { λ _. ⌜ Sheets-are-within-limits ⌝ }

@@ -1,0 +1,2 @@
+// What holds of every text that is read as a sheet.
+pub mod laws;

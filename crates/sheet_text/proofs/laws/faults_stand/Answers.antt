@@ -1,6 +1,0 @@
--- A fault stands whatever follows its line.
-use Rattle.sheet_text.proofs.Stands.{faults-stand}
-use Rattle.sheet_text.proofs.laws.faults_stand.Needs as need
-
-pub returns : need.returns
-returns c = faults-stand

@@ -1,6 +1,0 @@
--- What is read is within its limits.
-use Rattle.sheet_text.proofs.Limited.{within-limits}
-use Rattle.sheet_text.proofs.laws.sheets_are_within_limits.Needs as need
-
-pub returns : need.returns
-returns c = within-limits
