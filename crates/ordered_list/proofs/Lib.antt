@@ -1,0 +1,5 @@
+pub mod Changing
+pub mod Clamped
+pub mod Searching
+pub mod Shifting
+pub mod Told

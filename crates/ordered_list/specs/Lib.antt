@@ -1,0 +1,4 @@
+pub mod Entries
+pub mod Order
+pub mod Finding
+pub mod Listings

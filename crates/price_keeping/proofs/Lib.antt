@@ -1,0 +1,4 @@
+pub mod Cells
+pub mod Changing
+pub mod Listed
+pub mod Priced

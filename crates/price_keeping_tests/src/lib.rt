@@ -1,0 +1,3 @@
+// Tests of histories that are kept.
+#[cfg(test)]
+mod tests;

@@ -1,0 +1,3 @@
+// Tests of the register of units.
+#[cfg(test)]
+mod tests;
