@@ -1,0 +1,12 @@
+pub mod Longest
+pub mod AnySheet
+pub mod Spacing
+pub mod Numbered
+pub mod Values
+pub mod Gives
+pub mod LinesBack
+pub mod TextBack
+pub mod LinesRead
+pub mod TextRead
+pub mod RoundTrip
+pub mod FullSheet

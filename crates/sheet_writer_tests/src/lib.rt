@@ -1,0 +1,5 @@
+// Tests of the writing of sheets.
+#[cfg(test)]
+mod tests;
+#[cfg(test)]
+mod texts;
