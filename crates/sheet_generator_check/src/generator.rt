@@ -13,7 +13,7 @@ use sheet::lines::UnitLine;
 use sheet::place::Place;
 use sheet::report::Sheet;
 
-pub fn any_place(numbers: &mut Numbers) -> Place {
+pub(crate) fn any_place(numbers: &mut Numbers) -> Place {
     let zone = 1 + numbers.below(2) as u16;
     let day = 1 + numbers.below(31) as u16;
     let period = 1 + numbers.below(24) as u16;
@@ -102,7 +102,7 @@ fn any_groups(numbers: &mut Numbers) -> Entries<GroupLine, 16> {
     groups
 }
 
-pub fn any_sheet(numbers: &mut Numbers) -> Sheet {
+pub(crate) fn any_sheet(numbers: &mut Numbers) -> Sheet {
     let kwh = numbers.below(10_000_001);
     Sheet {
         day_ahead: any_price(numbers),

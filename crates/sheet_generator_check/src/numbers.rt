@@ -8,7 +8,7 @@ pub struct Numbers {
 
 impl Numbers {
     // A number below `end`.
-    pub fn below(&mut self, end: u32) -> u32
+    pub(crate) fn below(&mut self, end: u32) -> u32
         requires { ⌜ 0 < end ⌝ }
         ensures { λ r. ⌜ r < end ⌝ }
     {

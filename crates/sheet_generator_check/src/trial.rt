@@ -35,7 +35,7 @@ fn round_trip(place: Place, sheet: &Sheet) -> Option<(usize, bool)>
     Some((length, second.get(0..again)? == text))
 }
 
-pub fn try_all() -> Tally {
+pub(crate) fn try_all() -> Tally {
     let mut numbers = Numbers { state: 2024 };
     let mut tally = Tally {
         sheets: 0,

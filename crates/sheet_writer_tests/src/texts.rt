@@ -55,7 +55,7 @@ fn push_sixteen(
 }
 
 // A sheet with as many entries as there may be.
-pub fn full(heap: Global, figures: Figures) -> Result<String, AllocError> {
+pub(crate) fn full(heap: Global, figures: Figures) -> Result<String, AllocError> {
     let mut text = String::from_str(heap, figures.head)?;
     text.push_str("OFFERS 24\n")?;
     for _ in 0..24 {
