@@ -1,4 +1,6 @@
 // The book of a month, and the calls that change it.
+#![tactic(auto)]
+
 pub mod book;
 pub mod closing;
 pub mod enrolling;

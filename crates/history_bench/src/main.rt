@@ -1,5 +1,7 @@
 // Fills a table and a list of prices with entries in a shuffled order, looks each up and strikes each.
 // Arguments: how many entries, `table` or `list` for one of the two, and how often each is looked up.
+#![tactic(auto)]
+
 use measures::price::Price;
 use ordered_list::entry::Entry;
 use price_history::history::PriceHistory;

@@ -1,4 +1,6 @@
 // Volumes, prices, money and energy, each a type of its own, with their rounding and their sums.
+#![tactic(auto)]
+
 pub mod amount;
 pub mod calendar;
 pub mod costs;

@@ -1,4 +1,6 @@
 // What the offers of a sheet come to: volumes, the state of the zone, the prices that form.
+#![tactic(auto)]
+
 pub mod forming;
 pub mod laws;
 pub mod span;

@@ -1,4 +1,6 @@
 // Prices the sheet on standard input.
+#![tactic(auto)]
+
 use price_history::empty::EmptyHistory;
 use priced_text::laws::LONGEST;
 use priced_text::pricing_text::price_text;

@@ -1,4 +1,6 @@
 // Histories of formed prices, and the mean of the latest ones, which stands in for a price that was not formed.
+#![tactic(auto)]
+
 pub mod empty;
 pub mod history;
 pub mod key;

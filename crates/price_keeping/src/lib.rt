@@ -1,4 +1,6 @@
 // Histories of prices that can be changed: a table with a place for each key, and a list in the order of keys.
+#![tactic(auto)]
+
 pub mod keeping;
 mod key_order;
 pub mod laws;

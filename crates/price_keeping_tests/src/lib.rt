@@ -1,3 +1,5 @@
 // Tests of histories that are kept.
+#![tactic(auto)]
+
 #[cfg(test)]
 mod tests;

@@ -1,4 +1,6 @@
 // A sheet's text priced, as text.
+#![tactic(auto)]
+
 pub mod laws;
 pub mod lines;
 pub mod page;

@@ -1,4 +1,6 @@
 // The prices of a settlement period, over any history of prices.
+#![tactic(auto)]
+
 pub mod change;
 pub mod changes;
 pub mod changing;

@@ -1,4 +1,6 @@
 // The register of units: which party each unit belongs to.
+#![tactic(auto)]
+
 mod entry_refusal;
 mod limits;
 pub mod party;

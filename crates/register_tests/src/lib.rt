@@ -1,3 +1,5 @@
 // Tests of the register of units.
+#![tactic(auto)]
+
 #[cfg(test)]
 mod tests;

@@ -1,4 +1,6 @@
 // Makes a thousand sheets, writes and reads each, and writes it again.
+#![tactic(auto)]
+
 mod generator;
 mod numbers;
 mod trial;

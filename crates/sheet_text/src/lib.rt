@@ -1,4 +1,6 @@
 // Reads a settlement sheet from its text.
+#![tactic(auto)]
+
 mod cursor;
 mod draft;
 mod entry;

@@ -1,4 +1,6 @@
 // Tests of the reading of sheets.
+#![tactic(auto)]
+
 #[cfg(test)]
 mod tests;
 #[cfg(test)]

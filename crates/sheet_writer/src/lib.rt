@@ -1,4 +1,6 @@
 // Writes a settlement sheet as text.
+#![tactic(auto)]
+
 mod entries;
 pub mod laws;
 mod lines;

@@ -1,4 +1,6 @@
 // Tests of the writing of sheets.
+#![tactic(auto)]
+
 #[cfg(test)]
 mod tests;
 #[cfg(test)]

@@ -1,4 +1,6 @@
 // Text that is being written, in memory of a fixed size.
+#![tactic(auto)]
+
 pub mod buffer;
 pub mod numbers;
 pub mod writing;

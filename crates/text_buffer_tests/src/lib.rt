@@ -1,4 +1,6 @@
 // Tests of text that is being written.
+#![tactic(auto)]
+
 #[cfg(test)]
 mod tests {
     use text_buffer::buffer::{NoRoom, TextBuffer};

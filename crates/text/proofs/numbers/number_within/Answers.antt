@@ -12,7 +12,7 @@ returns-then-not-is-ascii-digit c =
 
 pub returns-then-n-most : goal.returns-then-n-most
 returns-then-n-most c =
-    let e = one_more c.loop-byte.n c.args.field.now c.loop-byte.byte-index (omega arith) (sym c.if-not-is-ascii-digit.ensures.value) in
+    let e = one_more c.loop-byte.n c.args.field.now c.loop-byte.byte-index (omega arith) (sym c.if-not-is_ascii_digit.ensures.value) in
     record {
       value = sym (ap (within c.args.least c.args.most) (sym c.loop-byte.invariant.1 ∙ e) ∙ larger c.args.least c.args.most _ (drop (c.loop-byte.byte-index + 1) c.args.field.now) c.if-n-most.true);
       bounds = tt;
@@ -20,7 +20,7 @@ returns-then-n-most c =
 
 pub loop-byte-preserved : goal.loop-byte-preserved
 loop-byte-preserved c =
-    let e = one_more c.loop-byte.n c.args.field.now c.loop-byte.byte-index (omega arith) (sym c.if-not-is-ascii-digit.ensures.value) in
+    let e = one_more c.loop-byte.n c.args.field.now c.loop-byte.byte-index (omega arith) (sym c.if-not-is_ascii_digit.ensures.value) in
     (c.if-n-most.false, sym e ∙ c.loop-byte.invariant.1)
 
 pub returns-then-n-least : goal.returns-then-n-least
