@@ -5,9 +5,9 @@ use Rattle.text.specs.Numbers.{digits_behind, number, within}
 use Rattle.text.proofs.Digits.{within_some, within_low, larger, no_digit, one_more}
 use Rattle.text.proofs.numbers.number_within.Goals as goal
 
-pub returns-then-not-is-ascii-digit : goal.returns-then-not-is-ascii-digit
-returns-then-not-is-ascii-digit c =
-    let e = no_digit c.loop-byte.n c.args.field.now c.loop-byte.byte-index (omega arith) (sym c.if-not-is-ascii-digit.ensures.value) in
+pub returns-then-not-is_ascii_digit : goal.returns-then-not-is_ascii_digit
+returns-then-not-is_ascii_digit c =
+    let e = no_digit c.loop-byte.n c.args.field.now c.loop-byte.byte-index (omega arith) (sym c.if-not-is_ascii_digit.ensures.value) in
     record { value = sym (ap (within c.args.least c.args.most) (sym c.loop-byte.invariant.1 ∙ e)); bounds = tt }
 
 pub returns-then-n-most : goal.returns-then-n-most

@@ -5,7 +5,7 @@ use Rattle.text.proofs.Digits.{minus, plain, negative_is, positive_is}
 use Rattle.text.proofs.numbers.signed_within.Goals as goal
 
 pub returns-in-err-n : goal.returns-in-err-n
-returns-in-err-n c = rw c.from-residual.ensures (record { value = sym (minus c.args.size c.args.field.now None (omega arith) c.in-err-n.ensures.value); bound = tt })
+returns-in-err-n c = rw c.from_residual.ensures (record { value = sym (minus c.args.size c.args.field.now None (omega arith) c.in-err-n.ensures.value); bound = tt })
 
 pub returns-in-ok-n : goal.returns-in-ok-n
 returns-in-ok-n c =

@@ -6,14 +6,14 @@ use Rattle.text_buffer.proofs.numbers.numeral_of.Goals as goal
 pub loop-rest-init : goal.loop-rest-init
 loop-rest-init c = spelt_none _ _ (search rules) refl
 
-pub overflow-sub-start : goal.overflow-sub-start
-overflow-sub-start c = spelt_room _ _ _ _ c.loop-rest.invariant
+pub overflow_sub-start : goal.overflow_sub-start
+overflow_sub-start c = spelt_room _ _ _ _ c.loop-rest.invariant
 
 pub loop-rest-preserved : goal.loop-rest-preserved
 loop-rest-preserved c = spelt_more _ _ _ _ c.loop-rest.invariant (omega (arith, c.loop-rest-test.true))
 
-pub overflow-sub-start-2 : goal.overflow-sub-start-2
-overflow-sub-start-2 c = spelt_room _ _ _ _ c.loop-rest.invariant
+pub overflow_sub-start-2 : goal.overflow_sub-start-2
+overflow_sub-start-2 c = spelt_room _ _ _ _ c.loop-rest.invariant
 
 pub returns : goal.returns
 returns c = record { digits = spelt_all _ _ _ _ c.loop-rest.invariant (omega (arith, c.loop-rest-test.false)); within = search rules }

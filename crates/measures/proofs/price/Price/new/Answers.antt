@@ -3,5 +3,5 @@ use Rattle.std.proofs.lemmas.Int.{ints}
 use Rattle.measures.proofs.Kept.{price_is, beyond}
 use Rattle.measures.proofs.price.Price.new.Goals as goal
 
-pub returns-then-kop-le-MOST-PRICE : goal.returns-then-kop-le-MOST-PRICE
-returns-then-kop-le-MOST-PRICE c = price_is _ c.args.kop (omega (arith, ints))
+pub returns-then-kop-le-MOST_PRICE : goal.returns-then-kop-le-MOST_PRICE
+returns-then-kop-le-MOST_PRICE c = price_is _ c.args.kop (omega (arith, ints))

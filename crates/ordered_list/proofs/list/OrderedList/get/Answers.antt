@@ -8,7 +8,7 @@ use Rattle.ordered_list.proofs.list.OrderedList.get.Goals as goal
 pub returns-in-Ok : goal.returns-in-Ok
 returns-in-Ok g c ordered =
     let es = entries c.args.self.now in
-    ap Some (c.value-at.ensures (record { rank = 0; value = c.value-at.result }))
+    ap Some (c.value_at.ensures (record { rank = 0; value = c.value_at.result }))
     ∙ some_shown es _ _ _ ordered (c.in-Ok.ensures.place ordered)
     ∙ ap (value_at es) c.rank.ensures
 

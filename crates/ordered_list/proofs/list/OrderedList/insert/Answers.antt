@@ -8,6 +8,6 @@ pub returns : goal.returns
 returns g c =
     let list = c.args.self.now in
     record {
-      entries = c.insert-at.ensures ∙ ap (λ es. insert es c.args.at c.args.entry) (take_clamped c.count-count.result list.count list.memory.now c.count-count.ensures);
-      places = c.insert-at.auto.places;
+      entries = c.insert_at.ensures ∙ ap (λ es. insert es c.args.at c.args.entry) (take_clamped c.count-count.result list.count list.memory.now c.count-count.ensures);
+      places = c.insert_at.auto.places;
     }

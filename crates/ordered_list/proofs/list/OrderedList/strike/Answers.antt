@@ -25,8 +25,8 @@ returns-in-Ok g c =
     let at = c.in-Ok.at in
     let es = entries list in
     let fs = entries c.remove.new.self in
-    let value = c.value-at-value.result in
-    let granted : Ordered list → Ok value ≡ strike_answer (listing list) rank = λ ordered. ap strike_of (ap Some (c.value-at-value.ensures (record { rank = 0; value = value })) ∙ some_shown es rank at (record { rank = 0; value = value }) ordered (c.in-Ok.ensures.place ordered)) in
+    let value = c.value_at-value.result in
+    let granted : Ordered list → Ok value ≡ strike_answer (listing list) rank = λ ordered. ap strike_of (ap Some (c.value_at-value.ensures (record { rank = 0; value = value })) ∙ some_shown es rank at (record { rank = 0; value = value }) ordered (c.in-Ok.ensures.place ordered)) in
     record {
       answer = λ ordered. granted ordered ∙ ap (strike_answer (listing list)) c.rank.ensures;
       after = λ ordered.

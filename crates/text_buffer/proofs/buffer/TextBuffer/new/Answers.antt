@@ -3,5 +3,5 @@ use Rattle.std.proofs.Common.{rules}
 use lib.ListN.{length-replicate}
 use Rattle.text_buffer.proofs.buffer.TextBuffer.new.Goals as goal
 
-pub invariant-of-result : goal.invariant-of-result
-invariant-of-result g c = (search rules, (length-replicate _ _, tt))
+pub invariant_of-result : goal.invariant_of-result
+invariant_of-result g c = (search rules, (length-replicate _ _, tt))
