@@ -1,7 +1,7 @@
 -- A number beyond the most stays so, and the bounds are tested at the end.
 use Rattle.std.proofs.Common.{◌+◌, drop, sym, ap, ◌∙◌, arith}
 use Rattle.std.proofs.lemmas.List.{at_drop_all}
-use Rattle.text.specs.Numbers.{digits_behind, number, within}
+use Rattle.text.specs.Numbers.{digits_behind, within}
 use Rattle.text.proofs.Digits.{within_some, within_low, larger, no_digit, one_more}
 use Rattle.text.proofs.numbers.number_within.Goals as goal
 

@@ -8,7 +8,7 @@ use Rattle.text_buffer.proofs.buffer.TextBuffer.put_signed.Goals as goal
 pub returns-in_err-put_number : goal.returns-in_err-put_number
 returns-in_err-put_number g c =
     let size = c.unsigned_abs-size.result in
-    let sign : length (written c.put.new.self) ≡ 1 = ap length c.in-ok-put.ensures.after ∙ ap (λ w. length (w ++ 45 ∷ [])) c.new-text.ensures in
+    let sign : length (written c.put.new.self) ≡ 1 = ap length c.in_ok-put.ensures.after ∙ ap (λ w. length (w ++ 45 ∷ [])) c.new-text.ensures in
     let digits = length-decimal-le 19 size (omega arith) (omega (arith, c.unsigned_abs-size.ensures.bound)) (omega (arith, c.unsigned_abs-size.ensures.bound)) in
-    let past : 20 < length (written c.put.new.self) + length (decimal size) = leb-false _ _ (sym c.in-err-put-number.ensures.fits) in
+    let past : 20 < length (written c.put.new.self) + length (decimal size) = leb-false _ _ (sym c.in_err-put_number.ensures.fits) in
     absurd (omega arith)
