@@ -1,5 +1,5 @@
 -- A number within its limit is the measure that has it, and any other is none.
-use Rattle.std.proofs.Common.{◌≡◌, ℕ, ◌<◌, ◌≤◌, ℤ, nat_abs, Some, None, Option, sym, refl, ap, ◌∙◌, arith}
+use Rattle.std.proofs.Common.{◌≡◌, ℕ, ◌<◌, ◌≤◌, ℤ, nat_abs, Some, None, sym, refl, ap, ◌∙◌, arith}
 use native.Mathlib.Bridge.{le_prop}
 use native.Mathlib.Decide.{dec_le}
 use Rattle.measures.specs.declared.price.Price.{Price}

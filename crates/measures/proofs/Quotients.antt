@@ -1,5 +1,5 @@
 -- A quotient of limited prices is a price.
-use Rattle.std.proofs.Common.{◌≡◌, ℕ, zero, suc, ◌*◌, ◌≤◌, ℤ, nat_abs, Some, None, Option, sym, ap, ◌∙◌, zero-lt-suc, arith}
+use Rattle.std.proofs.Common.{◌≡◌, ℕ, zero, suc, ◌*◌, ◌≤◌, ℤ, nat_abs, Some, sym, ap, ◌∙◌, zero-lt-suc, arith}
 use Rattle.std.specs.Option.{option_map}
 use Rattle.measures.specs.declared.price.Price.{Price}
 use Rattle.measures.specs.Limits.{price_of}

@@ -1,9 +1,9 @@
 -- The rounded quotient is the nearest, and no larger in size than a limit on the quotient.
-use Rattle.std.proofs.Common.{◌≡◌, ℕ, zero, suc, ◌+◌, ◌*◌, ◌/◌, ◌%◌, ◌<◌, ◌≤◌, ℤ, pos, negsuc, ◌-ℤ◌, ◌*ℤ◌, neg_ℤ, nat_abs, sym, refl, ap, ◌∙◌, mod-lt, mul_assoc, mul_comm, div-lt_iff_lt-mul, mul-le-mul_left, zero-mul, arith}
+use Rattle.std.proofs.Common.{◌≡◌, ℕ, zero, suc, ◌+◌, ◌*◌, ◌/◌, ◌%◌, ◌<◌, ◌≤◌, ℤ, pos, negsuc, ◌*ℤ◌, neg_ℤ, nat_abs, sym, refl, ap, ◌∙◌, mod-lt, mul_assoc, mul_comm, div-lt_iff_lt-mul, zero-mul, arith}
 use native.Mathlib.Nat.{div-add-mod}
 use borrow.Author.Differences.{ints}
 use Rattle.measures.proofs.Products.{neg_size}
-use Rattle.measures.specs.Rounding.{nearest, rounded, Rounds, QuotientsAreRounded}
+use Rattle.measures.specs.Rounding.{nearest, rounded, QuotientsAreRounded}
 
 nearest_near : (a n : ℕ) → 0 < n → (2 * (nearest a n * n) ≤ 2 * a + n) × (2 * a < 2 * (nearest a n * n) + n)
 nearest_near a n h =

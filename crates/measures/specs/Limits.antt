@@ -1,5 +1,5 @@
 -- Numbers that are measures where they are within the limits.
-use Rattle.std.specs.Prelude.{ℕ, ◌≤◌, ℤ, Some, None, Option, unsigned_abs}
+use Rattle.std.specs.Prelude.{ℕ, ℤ, Some, None, Option, unsigned_abs}
 use Rattle.std.proofs.Math.Decide.{dec_le}
 use Rattle.measures.specs.declared.volume.Volume.{Volume}
 use Rattle.measures.specs.declared.volume.PeriodVolume.{PeriodVolume}

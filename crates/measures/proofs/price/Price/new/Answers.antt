@@ -1,6 +1,6 @@
-use Rattle.std.proofs.Common.{arith, rules}
+use Rattle.std.proofs.Common.{arith}
 use Rattle.std.proofs.lemmas.Int.{ints}
-use Rattle.measures.proofs.Kept.{price_is, beyond}
+use Rattle.measures.proofs.Kept.{price_is}
 use Rattle.measures.proofs.price.Price.new.Goals as goal
 
 pub returns-then-kop-le-MOST_PRICE : goal.returns-then-kop-le-MOST_PRICE
