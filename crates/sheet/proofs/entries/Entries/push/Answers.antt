@@ -1,4 +1,4 @@
-use Rattle.std.proofs.Common.{◌≡◌, ◌<◌, length, refl, add-one, arith, length-set, length-take, take-suc-set, rules}
+use Rattle.std.proofs.Common.{◌≡◌, ◌<◌, length, refl, add-one, arith, length-take, take-suc-set, rules}
 use Rattle.std.proofs.lemmas.Bool.Decides.{nat_tests}
 use Rattle.sheet.proofs.entries.Entries.push.Goals as goal
 
