@@ -10,31 +10,31 @@ use Rattle.sheet_text.specs.Standing.{left}
 use Rattle.sheet_text.proofs.Entering.{line_missing, line_wrong, line_said, entries_stop, entries_more, next_number}
 use Rattle.sheet_text.proofs.cursor.Cursor.next_entries.Goals as goal
 
-pub returns-in-err-fields : goal.returns-in-err-fields
-returns-in-err-fields g c =
-    let p = err_from_is_err_and c.from-residual.result c.from-residual.ensures.1 in
-    let missing = line_missing (g.T.Entry.says c.loop-index.before) (g.met.T.Entry.counts c.loop-index.before) (left c.loop-index.self) _ c.in-err-fields.ensures in
+pub returns-in_err-fields : goal.returns-in_err-fields
+returns-in_err-fields g c =
+    let p = err_from_is_err_and c.from_residual.result c.from_residual.ensures.1 in
+    let missing = line_missing (g.T.Entry.says c.loop-index.before) (g.met.T.Entry.counts c.loop-index.before) (left c.loop-index.self) _ c.in_err-fields.ensures in
     let stop = entries_stop g.T.Entry.says g.T.Entry.order c.args.count c.loop-index.index c.loop-index.before (listed c.loop-index.found) (left c.loop-index.self) (omega arith) _ missing in
     rw (p.1, p.2) (sym c.loop-index.invariant.2 ∙ stop)
 
-pub returns-in-err-entry : goal.returns-in-err-entry
-returns-in-err-entry g c =
-    let p = err_from_is_err_and c.from-residual-in-err-entry.result c.from-residual-in-err-entry.ensures.1 in
-    let wrong = line_wrong (g.T.Entry.says c.loop-index.before) (g.met.T.Entry.counts c.loop-index.before) (left c.loop-index.self) (listing c.in-ok-fields.fields) (left c.next-fields.new.self) c.in-ok-fields.ensures _ (sym c.loop-index.invariant.0) _ (sym c.in-err-entry.ensures) in
+pub returns-in_err-entry : goal.returns-in_err-entry
+returns-in_err-entry g c =
+    let p = err_from_is_err_and c.from_residual-in_err-entry.result c.from_residual-in_err-entry.ensures.1 in
+    let wrong = line_wrong (g.T.Entry.says c.loop-index.before) (g.met.T.Entry.counts c.loop-index.before) (left c.loop-index.self) (listing c.in_ok-fields.fields) (left c.next_fields.new.self) c.in_ok-fields.ensures _ (sym c.loop-index.invariant.0) _ (sym c.in_err-entry.ensures) in
     let stop = entries_stop g.T.Entry.says g.T.Entry.order c.args.count c.loop-index.index c.loop-index.before (listed c.loop-index.found) (left c.loop-index.self) (omega arith) _ wrong in
     rw (p.1, p.2) (sym c.loop-index.invariant.2 ∙ stop)
 
 pub loop-index-preserved : goal.loop-index-preserved
 loop-index-preserved g c =
-    let next = next_number (left c.loop-index.self) (left c.next-fields.new.self) (listing c.in-ok-fields.fields) c.in-ok-fields.ensures in
-    let said = line_said (g.T.Entry.says c.loop-index.before) (g.met.T.Entry.counts c.loop-index.before) (left c.loop-index.self) (listing c.in-ok-fields.fields) (left c.next-fields.new.self) c.in-ok-fields.ensures _ (sym c.loop-index.invariant.0) c.in-ok-entry.entry (sym c.in-ok-entry.ensures) in
-    let more = entries_more g.T.Entry.says g.T.Entry.order c.args.count c.loop-index.index c.loop-index.before (listed c.loop-index.found) (left c.loop-index.self) (omega arith) c.in-ok-entry.entry (left c.next-fields.new.self) said in
+    let next = next_number (left c.loop-index.self) (left c.next_fields.new.self) (listing c.in_ok-fields.fields) c.in_ok-fields.ensures in
+    let said = line_said (g.T.Entry.says c.loop-index.before) (g.met.T.Entry.counts c.loop-index.before) (left c.loop-index.self) (listing c.in_ok-fields.fields) (left c.next_fields.new.self) c.in_ok-fields.ensures _ (sym c.loop-index.invariant.0) c.in_ok-entry.entry (sym c.in_ok-entry.ensures) in
+    let more = entries_more g.T.Entry.says g.T.Entry.order c.args.count c.loop-index.index c.loop-index.before (listed c.loop-index.found) (left c.loop-index.self) (omega arith) c.in_ok-entry.entry (left c.next_fields.new.self) said in
     let room = c.push.ensures.room ∙ lt-ltb (length (listed c.loop-index.found)) _ (search rules) in
     let pushed = c.push.ensures.after ∙ cond-true c.push.result _ _ room in (
       omega arith,
-      ap length pushed ∙ length_push (listed c.loop-index.found) c.in-ok-entry.entry ∙ ap (λ n. n + 1) c.loop-index.invariant.1,
-      ap (λ b. entries g.T.Entry.says g.T.Entry.order (c.args.count - (c.loop-index.index + 1)) b (listed c.push.new.self) (left c.next-fields.new.self)) c.number-before.ensures
-          ∙ ap (λ xs. entries g.T.Entry.says g.T.Entry.order (c.args.count - (c.loop-index.index + 1)) (g.T.Entry.order c.in-ok-entry.entry) xs (left c.next-fields.new.self)) pushed
+      ap length pushed ∙ length_push (listed c.loop-index.found) c.in_ok-entry.entry ∙ ap (λ n. n + 1) c.loop-index.invariant.1,
+      ap (λ b. entries g.T.Entry.says g.T.Entry.order (c.args.count - (c.loop-index.index + 1)) b (listed c.push.new.self) (left c.next_fields.new.self)) c.number-before.ensures
+          ∙ ap (λ xs. entries g.T.Entry.says g.T.Entry.order (c.args.count - (c.loop-index.index + 1)) (g.T.Entry.order c.in_ok-entry.entry) xs (left c.next_fields.new.self)) pushed
           ∙ sym more
           ∙ c.loop-index.invariant.2,
     )

@@ -14,9 +14,9 @@ returns c =
     let stage = c.args.self.now.draft.stage in
     let report = plain c.args.self.now.draft.report in
     let here = left c.args.self.now.cursor in
-    let fields = listing c.in-ok-fields.fields in
-    let there = left c.next-fields.new.self in
-    let cut = c.in-ok-fields.ensures in
-    MatchResult-weaker c.take-line.result c.take-line.ensures
+    let fields = listing c.in_ok-fields.fields in
+    let there = left c.next_fields.new.self in
+    let cut = c.in_ok-fields.ensures in
+    MatchResult-weaker c.take_line.result c.take_line.ensures
     (λ n h. (line_said (step stage report) (step_counts stage report) here fields there cut here.line refl _ h.0, h.1, h.2, next_number here there fields cut))
     (λ e h. line_wrong (step stage report) (step_counts stage report) here fields there cut here.line refl e h)
