@@ -22,18 +22,18 @@ const UNIT_BEYOND: &str =
 const ONE_SHORT: usize = LONGEST - 1;
 
 // Reads a text and writes its sheet to `out`, which is full of dots: the text is at the front, and
-// the dots are kept behind it.
-fn written_back(rt: &impl Abort, text: &[u8], out: &mut [u8]) -> Result<(), Fail> {
+// the dots are kept behind it. A test that fails names the text.
+fn written_back(rt: &impl Abort, name: &str, text: &[u8], out: &mut [u8]) -> Result<(), Fail> {
     let Ok(report) = read(text) else {
         return Err(Fail::new("the text is refused"));
     };
     let Ok(length) = write_sheet(report.place, &report.sheet, out) else {
         return Err(Fail::new("the output is too short"));
     };
-    assert_eq!(rt; length, text.len());
-    assert!(rt; length <= out.len());
-    assert!(rt; &out[0..length] == text);
-    assert!(rt; all_dots(&out[length..]));
+    assert_eq!(rt; length, text.len(), "{name}");
+    assert!(rt; length <= out.len(), "{name}");
+    assert!(rt; &out[0..length] == text, "{name}");
+    assert!(rt; all_dots(&out[length..]), "{name}");
     Ok(())
 }
 
@@ -51,7 +51,7 @@ fn sheets_at_their_limits_are_written_back(rt: HostRuntime) -> Result<(), Fail> 
     for figures in [LOWEST, HIGHEST, LENGTHY] {
         let text = full(rt.alloc(), figures)?;
         let mut out = [b'.'; 2000];
-        written_back(&rt, text.as_bytes(), &mut out[..]).note(figures.head)?;
+        written_back(&rt, figures.head, text.as_bytes(), &mut out[..])?;
     }
     Ok(())
 }
@@ -59,9 +59,9 @@ fn sheets_at_their_limits_are_written_back(rt: HostRuntime) -> Result<(), Fail> 
 #[test]
 fn small_sheets_are_written_back(rt: HostRuntime) -> Result<(), Fail> {
     let mut out = [b'.'; 200];
-    written_back(&rt, SMALL.as_bytes(), &mut out[..])?;
+    written_back(&rt, "small", SMALL.as_bytes(), &mut out[..])?;
     let mut out = [b'.'; 200];
-    written_back(&rt, EMPTY.as_bytes(), &mut out[..])
+    written_back(&rt, "empty", EMPTY.as_bytes(), &mut out[..])
 }
 
 #[test]
@@ -69,7 +69,7 @@ fn the_longest_text_just_fits(rt: HostRuntime) -> Result<(), Fail> {
     let text = full(rt.alloc(), LENGTHY)?;
     assert_eq!(rt; text.len(), LONGEST);
     let mut out = [b'.'; LONGEST];
-    written_back(&rt, text.as_bytes(), &mut out[..])
+    written_back(&rt, "longest", text.as_bytes(), &mut out[..])
 }
 
 // Refuses an output full of dots, and leaves it so.

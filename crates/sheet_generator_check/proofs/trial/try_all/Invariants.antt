@@ -3,4 +3,4 @@ use Rattle.std.proofs.Common.{◌*◌, ◌≤◌}
 use Rattle.sheet_generator_check.proofs.trial.try_all.Given as goal
 
 abbrev pub invariant-loop-tried : goal.invariant-loop-tried
-invariant-loop-tried l = (l.tally.sheets ≤ l.-tried) × (l.tally.same ≤ l.-tried) × (l.tally.bytes ≤ 1612 * l.-tried)
+invariant-loop-tried l = (l.tally.sheets ≤ l._tried) × (l.tally.same ≤ l._tried) × (l.tally.bytes ≤ 1612 * l._tried)
