@@ -11,7 +11,7 @@ use Rattle.sheet.specs.declared.lines.Offer.{Offer}
 use Rattle.sheet.specs.declared.lines.UnitLine.{UnitLine}
 use Rattle.text.specs.Cuts.{parts}
 use Rattle.sheet_laws.specs.Laws.{OfferWithin, UnitWithin, GroupWithin, Rises, WithinLimits, SheetsAreWithinLimits}
-use Rattle.sheet_text.specs.Lines.{one, two, three, four, eight, period_line, day_ahead_line, forced_line, count_line, offer_line, unit_line, group_line}
+use Rattle.sheet_text.specs.Lines.{two, three, four, eight, period_line, day_ahead_line, forced_line, count_line, offer_line, unit_line, group_line}
 use Rattle.sheet_text.specs.Onward.{from_period, from_day_ahead, from_forced, from_offers, from_units, from_groups, from_end, with_offers, with_units, with_groups}
 use Rattle.sheet_text.specs.Reading.{Left, Reported, then, next_line, a_line, entries, a_list, the_end, inside}
 use Rattle.sheet_text.specs.Steps.{with_place, with_day_ahead, with_forced}
