@@ -6,7 +6,7 @@ use Rattle.std.proofs.lemmas.Bool.{cond-true, cond-false, eq-eqb, ne_eqb}
 use Rattle.ordered_list.specs.declared.entry.Absent.{Absent}
 use Rattle.ordered_list.specs.declared.entry.EntryRefusal.{EntryRefusal}
 use Rattle.ordered_list.specs.declared.entry.EntryRefusal.TheVariants.{Present, Full}
-use Rattle.ordered_list.specs.Listings.{Listing, entry_to, entry_answer, entered, strike_of, strike_answer, struck}
+use Rattle.ordered_list.specs.Listings.{Listing, entry_to, entry_answer, entered, strike_answer, struck}
 
 module _ {V : Type 0} where
   listing_path : (m n : Listing V) → ((q : ℕ) → m.shown q ≡ n.shown q) → m.count ≡ n.count → m.places ≡ n.places → m ≡ n

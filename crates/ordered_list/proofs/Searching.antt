@@ -1,9 +1,8 @@
 -- What a search among rising ranks finds is what the entries show.
-use Rattle.std.proofs.Common.{◌≡◌, ℕ, zero, suc, ◌+◌, ◌<◌, ◌≤◌, eqb, List, [], ◌∷◌, length, get_or, Some, None, sym, ap, ◌∙◌, subst, ⊎_elim, arith}
+use Rattle.std.proofs.Common.{◌≡◌, ℕ, zero, suc, ◌+◌, ◌<◌, ◌≤◌, List, [], ◌∷◌, length, get_or, Some, None, refl, sym, ◌∙◌, subst, ⊎_elim, arith}
 use lib.ListN.{length-map}
 use Rattle.std.proofs.lemmas.List.{get_or-map}
-use Rattle.std.proofs.lemmas.Map.{Missing, Hit, lookup-missing, lookup-hit}
-use Rattle.std.proofs.lemmas.Bool.{cases_eq, cases_lt, eq-eqb, ne_eqb}
+use Rattle.std.proofs.lemmas.Bool.{cases_eq, cases_lt, cases_order, cond-true, cond-false, eq-eqb, ne_eqb}
 use Rattle.ordered_list.specs.declared.entry.Entry.{Entry}
 use Rattle.ordered_list.specs.Entries.{ranks, values, value_at}
 use Rattle.ordered_list.specs.Finding.{Here, Before}
@@ -25,22 +24,31 @@ rising_above ks middle rank up lt k h inside =
     (λ ne. let high : middle < k = omega arith in omega (arith, up middle k high inside))
     (cases_eq k middle)
 
-pub missing_from : (ks : List ℕ) (rank : ℕ) → ((k : ℕ) → k < length ks → get_or ks k 0 ≡ rank → ⊥) → Missing eqb rank ks
-missing_from [] rank h = tt
-missing_from (x ∷ xs) rank h = (ne_eqb rank x (λ e. h 0 (omega arith) (sym e)), missing_from xs rank (λ k lt. h (suc k) (omega arith)))
+-- a rank that stands nowhere shows none
+pub missing_shown : {V : Type 0} (es : List (Entry V)) (rank : ℕ) → ((k : ℕ) → k < length es → get_or (ranks es) k 0 ≡ rank → ⊥) → value_at es rank ≡ None
+missing_shown [] rank h = refl
+missing_shown (x ∷ es) rank h = cond-false _ _ _ (ne_eqb rank x.rank (λ e. h 0 (omega arith) (sym e))) ∙ missing_shown es rank (λ k lt. h (suc k) (omega arith))
 
-hit_from : (ks : List ℕ) (rank at : ℕ) → at < length ks → get_or ks at 0 ≡ rank → ((k : ℕ) → k < at → get_or ks k 0 ≡ rank → ⊥) → Hit eqb rank ks at
-hit_from [] rank at lt is h = absurd (omega arith)
-hit_from (x ∷ xs) rank zero lt is h = eq-eqb rank x (sym is)
-hit_from (x ∷ xs) rank (suc at) lt is h = (ne_eqb rank x (λ e. h 0 (omega arith) (sym e)), hit_from xs rank at (omega arith) is (λ k l. h (suc k) (omega arith)))
+-- the first place of a rank shows its value
+hit_shown : {V : Type 0} (es : List (Entry V)) (rank at : ℕ) (d : Entry V) → at < length es → get_or (ranks es) at 0 ≡ rank → ((k : ℕ) → k < at → get_or (ranks es) k 0 ≡ rank → ⊥) → value_at es rank ≡ Some (get_or es at d).value
+hit_shown [] rank at d lt is h = absurd (omega arith)
+hit_shown (x ∷ es) rank zero d lt is h = cond-true _ _ _ (eq-eqb rank x.rank (sym is))
+hit_shown (x ∷ es) rank (suc at) d lt is h = cond-false _ _ _ (ne_eqb rank x.rank (λ e. h 0 (omega arith) (sym e))) ∙ hit_shown es rank at d (omega arith) is (λ k l. h (suc k) (omega arith))
 
-pub before_missing : (ks : List ℕ) (rank at : ℕ) → Before ks rank at → Missing eqb rank ks
-before_missing ks rank at b =
-    missing_from ks rank
-    (λ k lt e. ⊎_elim (λ low. omega (arith, b.below k low)) (λ high. omega (arith, b.above k high lt)) (cases_lt k at))
+pub before_apart : (ks : List ℕ) (rank at : ℕ) → Before ks rank at → (k : ℕ) → k < length ks → get_or ks k 0 ≡ rank → ⊥
+before_apart ks rank at b k lt e = ⊎_elim (λ low. omega (arith, b.below k low)) (λ high. omega (arith, b.above k high lt)) (cases_lt k at)
 
-pub here_hit : (ks : List ℕ) (rank at : ℕ) → Rising ks → Here ks rank at → Hit eqb rank ks at
-here_hit ks rank at up h = hit_from ks rank at h.inside h.is (λ k lt e. let is = h.is in omega (arith, up k at lt h.inside))
+pub here_alone : (ks : List ℕ) (rank at : ℕ) → Rising ks → Here ks rank at → (k : ℕ) → k < length ks → get_or ks k 0 ≡ rank → k ≡ at
+here_alone ks rank at up h k lt e =
+    let is = h.is in
+    ⊎_elim
+    (λ (same : k ≡ at). same)
+    (λ o.
+    ⊎_elim
+    (λ (low : k < at). absurd (omega (arith, up k at low h.inside)))
+    (λ (high : at < k). absurd (omega (arith, up at k high lt)))
+    o)
+    (cases_order k at)
 
 module _ {V : Type 0} (es : List (Entry V)) where
   pub length_ranks : length (ranks es) ≡ length es
@@ -53,11 +61,9 @@ module _ {V : Type 0} (es : List (Entry V)) where
   rank_read i d lt = get_or-map (λ e. e.rank) es i d 0 lt
 
   pub none_shown : (rank at : ℕ) → Before (ranks es) rank at → None ≡ value_at es rank
-  none_shown rank at b = sym (lookup-missing eqb rank (ranks es) (values es) (before_missing (ranks es) rank at b))
+  none_shown rank at b = sym (missing_shown es rank (λ k lt. before_apart (ranks es) rank at b k (omega (arith, length_ranks))))
 
   pub some_shown : (rank at : ℕ) (d : Entry V) → Rising (ranks es) → Here (ranks es) rank at → Some (get_or es at d).value ≡ value_at es rank
   some_shown rank at d up h =
-      let lt : at < length es = omega (arith, h.inside, length_ranks) in
-      let inside : at < length (values es) = omega (arith, length_values) in
-      ap Some (sym (get_or-map (λ e. e.value) es at d d.value lt))
-      ∙ sym (lookup-hit eqb rank d.value (ranks es) (values es) at (here_hit (ranks es) rank at up h) inside)
+      let inside = h.inside in
+      sym (hit_shown es rank at d (omega (arith, length_ranks)) h.is (λ k lt e. omega (arith, here_alone (ranks es) rank at up h k (omega arith) e)))

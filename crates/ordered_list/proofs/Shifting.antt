@@ -1,16 +1,15 @@
 -- Entries shifted to let one in, or to close the gap that one leaves, stay in order and show one change.
-use Rattle.std.proofs.Common.{◌≡◌, ℕ, suc, ◌+◌, ◌-◌, ◌<◌, ◌≤◌, true, eqb, List, ◌∷◌, ◌++◌, map, length, get_or, take, drop, Some, None, sym, ap, ◌∙◌, subst, ⊎_elim, arith}
-use Rattle.std.specs.Map.{lookup, update}
+use Rattle.std.proofs.Common.{◌≡◌, ℕ, zero, suc, ◌+◌, ◌-◌, ◌<◌, ◌≤◌, Bool, true, false, cond, eqb, List, [], ◌∷◌, ◌++◌, map, length, get_or, take, drop, Some, None, refl, sym, ap, ◌∙◌, subst, ⊎_elim, arith}
+use Rattle.std.specs.Map.{update}
 use Rattle.std.specs.List.{insert, remove}
-use Rattle.std.proofs.lemmas.Map.{Missing, lookup-insert, lookup-remove}
-use Rattle.std.proofs.lemmas.List.{get_or-drop, length-drop, take-map, drop-map, map-append}
+use Rattle.std.proofs.lemmas.List.{take-map, drop-map, map-append}
 use Rattle.std.proofs.lemmas.List.Edits.{length-insert, get_or-insert_below, get_or-insert_at, get_or-insert_above, length-remove, get_or-remove_below, get_or-remove_above}
-use Rattle.std.proofs.lemmas.Bool.{cases_eq, cases_lt, cases_order, eq-eqb, ne_eqb, eqb-true}
+use Rattle.std.proofs.lemmas.Bool.{cases_eq, cases_lt, cases_order, cond-true, cond-false, eq-eqb, ne_eqb, eqb-true}
 use Rattle.ordered_list.specs.declared.entry.Entry.{Entry}
-use Rattle.ordered_list.specs.Entries.{ranks, values, value_at}
+use Rattle.ordered_list.specs.Entries.{ranks, value_at}
 use Rattle.ordered_list.specs.Finding.{Here, Before}
 use Rattle.ordered_list.specs.Order.{Rising}
-use Rattle.ordered_list.proofs.Searching.{missing_from, before_missing, here_hit, length_ranks, length_values}
+use Rattle.ordered_list.proofs.Searching.{missing_shown, here_alone, length_ranks}
 
 flip : (x y : ℕ) → eqb x y ≡ eqb y x
 flip x y =
@@ -19,8 +18,11 @@ flip x y =
     (λ ne. ne_eqb x y ne ∙ sym (ne_eqb y x (λ e. ne (sym e))))
     (cases_eq x y)
 
-alike : (x y z : ℕ) → eqb x y ≡ true → eqb x z ≡ eqb y z
-alike x y z e = ap (λ w. eqb w z) (eqb-true x y e)
+-- two choices that are not both made can be made in either order
+swapped : {X : Type 0} (a b : Bool) (x y z : X) → (a ≡ true → b ≡ true → ⊥) → cond b x (cond a y z) ≡ cond a y (cond b x z)
+swapped true true x y z h = absurd (h refl refl)
+swapped true false x y z h = refl
+swapped false b x y z h = refl
 
 module _ {X Y : Type 0} (f : X → Y) (xs : List X) (at : ℕ) where
   map_inserted : (x : X) → map f (insert xs at x) ≡ insert (map f xs) at (f x)
@@ -94,13 +96,24 @@ module _ (ks : List ℕ) (at : ℕ) (here : at < length ks) where
       omega (arith, cut_high x ix, cut_high y iy, up (x + 1) (y + 1) (omega arith) (omega (arith, size))))
       (cases_lt x at)
 
-missing_after : (ks : List ℕ) (rank at : ℕ) → Rising ks → Here ks rank at → Missing eqb rank (drop (suc at) ks)
-missing_after ks rank at up h =
-    missing_from (drop (suc at) ks) rank
-    (λ k lt e.
-    let is = h.is in
-    let there : get_or ks (suc at + k) 0 ≡ rank = sym (get_or-drop (suc at) ks k 0) ∙ e in
-    omega (arith, there, up at (suc at + k) (omega arith) (omega (arith, lt, length-drop (suc at) ks))))
+module _ {V : Type 0} where
+  inserted_shows : (es : List (Entry V)) (e : Entry V) (at q : ℕ) → at ≤ length es → ((k : ℕ) → k < at → get_or (ranks es) k 0 ≡ e.rank → ⊥) → value_at (insert es at e) q ≡ cond (eqb e.rank q) (Some e.value) (value_at es q)
+  inserted_shows es e zero q le h = ap (λ b. cond b (Some e.value) (value_at es q)) (flip q e.rank)
+  inserted_shows [] e (suc at) q le h = absurd (omega arith)
+  inserted_shows (x ∷ es) e (suc at) q le h =
+      ap (cond (eqb q x.rank) (Some x.value)) (inserted_shows es e at q (omega arith) (λ k lt. h (suc k) (omega arith)))
+      ∙ swapped (eqb e.rank q) (eqb q x.rank) (Some x.value) (Some e.value) (value_at es q) (λ a b. h 0 (omega arith) (sym (eqb-true e.rank q a ∙ eqb-true q x.rank b)))
+
+  removed_shows : (es : List (Entry V)) (rank at q : ℕ) → at < length es → get_or (ranks es) at 0 ≡ rank → ((k : ℕ) → k < length es → get_or (ranks es) k 0 ≡ rank → k ≡ at) → value_at (remove es at) q ≡ cond (eqb rank q) None (value_at es q)
+  removed_shows [] rank at q lt is h = absurd (omega arith)
+  removed_shows (x ∷ es) rank zero q lt is h =
+      ⊎_elim
+      (λ (e : rank ≡ q). missing_shown es q (λ k l s. omega (arith, h (suc k) (omega arith) (s ∙ sym e))) ∙ sym (cond-true _ _ _ (eq-eqb rank q e)))
+      (λ ne. sym (cond-false _ _ _ (ne_eqb q x.rank (λ e. ne (sym (e ∙ is))))) ∙ sym (cond-false _ _ _ (ne_eqb rank q ne)))
+      (cases_eq rank q)
+  removed_shows (x ∷ es) rank (suc at) q lt is h =
+      ap (cond (eqb q x.rank) (Some x.value)) (removed_shows es rank at q (omega arith) is (λ k l s. omega (arith, h (suc k) (omega arith) s)))
+      ∙ swapped (eqb rank q) (eqb q x.rank) (Some x.value) None (value_at es q) (λ a b. omega (arith, h 0 (omega arith) (sym (eqb-true rank q a ∙ eqb-true q x.rank b))))
 
 module _ {V : Type 0} (es fs : List (Entry V)) (rank at : ℕ) where
   -- the entries after one is let in
@@ -108,29 +121,23 @@ module _ {V : Type 0} (es fs : List (Entry V)) (rank at : ℕ) where
     let_in_ranks : ranks fs ≡ insert (ranks es) at rank
     let_in_ranks = ap (map (λ x. x.rank)) is ∙ map_inserted (λ x. x.rank) es at (record { rank = rank; value = value })
 
-    let_in_values : values fs ≡ insert (values es) at value
-    let_in_values = ap (map (λ x. x.value)) is ∙ map_inserted (λ x. x.value) es at (record { rank = rank; value = value })
-
     pub let_in_rises : Rising (ranks es) → Rising (ranks fs)
     let_in_rises up = subst Rising (sym let_in_ranks) (rising_inserted (ranks es) rank at b up)
 
     pub let_in_shows : (q : ℕ) → value_at fs q ≡ update eqb (value_at es) rank (Some value) q
     let_in_shows q =
-        (λ i. lookup eqb (let_in_ranks i) (let_in_values i) q)
-        ∙ lookup-insert eqb flip alike rank q value at (ranks es) (values es) (before_missing (ranks es) rank at b) b.inside (omega (arith, b.inside, length_ranks es, length_values es))
+        ap (λ l. value_at l q) is
+        ∙ inserted_shows es (record { rank = rank; value = value }) at q (omega (arith, b.inside, length_ranks es)) (λ k lt e. omega (arith, b.below k lt, e))
 
   -- the entries after one is taken out
   module _ (is : fs ≡ remove es at) (up : Rising (ranks es)) (h : Here (ranks es) rank at) where
     taken_out_ranks : ranks fs ≡ remove (ranks es) at
     taken_out_ranks = ap (map (λ x. x.rank)) is ∙ map_removed (λ x. x.rank) es at
 
-    taken_out_values : values fs ≡ remove (values es) at
-    taken_out_values = ap (map (λ x. x.value)) is ∙ map_removed (λ x. x.value) es at
-
     pub taken_out_rises : Rising (ranks fs)
     taken_out_rises = subst Rising (sym taken_out_ranks) (rising_removed (ranks es) at h.inside up)
 
     pub taken_out_shows : (q : ℕ) → value_at fs q ≡ update eqb (value_at es) rank None q
     taken_out_shows q =
-        (λ i. lookup eqb (taken_out_ranks i) (taken_out_values i) q)
-        ∙ lookup-remove eqb flip alike rank q (ranks es) (values es) at (here_hit (ranks es) rank at up h) (missing_after (ranks es) rank at up h) (omega (arith, h.inside, length_ranks es, length_values es))
+        ap (λ l. value_at l q) is
+        ∙ removed_shows es rank at q (omega (arith, h.inside, length_ranks es)) h.is (λ k lt. here_alone (ranks es) rank at up h k (omega (arith, length_ranks es)))

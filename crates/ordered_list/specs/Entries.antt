@@ -12,4 +12,4 @@ module _ {V : Type 0} where
 
   -- the value of the entry with a rank
   abbrev pub value_at : List (Entry V) → ℕ → Option V
-  value_at es = lookup nat_eq (ranks es) (values es)
+  value_at es rank = lookup (nat_eq rank) (map (λ e. (e.rank, e.value)) es)

@@ -1,5 +1,5 @@
 -- The rounded mean of prices is within the limit of a price.
-use Rattle.std.proofs.Common.{◌≡◌, ℕ, ◌*◌, ◌≤◌, List, length, ℤ, nat_abs, Some, None, Option, sym, ap, ◌∙◌}
+use Rattle.std.proofs.Common.{◌≡◌, ℕ, ◌*◌, ◌≤◌, List, length, ℤ, nat_abs, Some, None, Option, ap, ◌∙◌}
 use Rattle.std.specs.Option.{option_map}
 use Rattle.measures.specs.declared.price.Price.{Price}
 use Rattle.measures.specs.Limits.{price_of}

@@ -1,5 +1,5 @@
 -- The text of any sheet fits the page, whatever its numbers are.
-use Rattle.std.proofs.Common.{ℕ, ◌≤◌, min, List, [], ◌∷◌, length, arith, length-take}
+use Rattle.std.proofs.Common.{ℕ, ◌≤◌, List, [], ◌∷◌, length, arith, length-take}
 use Rattle.std.specs.List.{AllByRecursion as All}
 use Rattle.sheet.specs.Figures.{figures_of}
 use Rattle.sheet.specs.Listed.{listed}

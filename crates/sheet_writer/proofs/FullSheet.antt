@@ -5,7 +5,6 @@ use Rattle.std.specs.List.{AllByRecursion as All}
 use Rattle.std.proofs.lemmas.Fmt.{length-decimal-le}
 use Rattle.std.proofs.ByRecursion.{All-weaker}
 use Rattle.measures.specs.declared.price.Price.{Price}
-use Rattle.measures.specs.declared.volume.PeriodVolume.{PeriodVolume}
 use Rattle.measures.specs.declared.volume.Volume.{Volume}
 use Rattle.sheet.specs.declared.lines.Direction.TheVariants.{Up}
 use Rattle.sheet.specs.declared.lines.GroupLine.{GroupLine}

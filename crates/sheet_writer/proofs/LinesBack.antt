@@ -1,5 +1,5 @@
 -- What a line says is written as its fields.
-use Rattle.std.proofs.Common.{◌≡◌, ℕ, suc, ◌^◌, ◌<◌, Bool, true, cond, eqb, ltb, List, [], ◌∷◌, length, get_or, Ok, Err, codes, Result, sym, refl, ap, ◌∙◌, arith}
+use Rattle.std.proofs.Common.{◌≡◌, ℕ, suc, ◌^◌, ◌<◌, eqb, ltb, List, [], ◌∷◌, length, get_or, Ok, Err, codes, Result, sym, refl, ap, ◌∙◌, arith}
 use Rattle.std.proofs.lemmas.Bool.{eqb-true}
 use Rattle.text.specs.Numbers.{number, within}
 use Rattle.sheet_text.specs.Lines.{counted, one, two, three, four, eight, period_line, day_ahead_line, forced_line, count_line, offer_line, unit_line, group_line, end_line}

@@ -1,7 +1,6 @@
 -- The fields of a line within its limits say what they were written of.
-use Rattle.std.proofs.Common.{◌≡◌, ℕ, ◌^◌, ◌<◌, ◌≤◌, Bool, true, cond, ltb, List, [], ◌∷◌, length, nat_abs, Some, Ok, Err, codes, decimal, Option, Result, refl, ap, ◌∙◌, arith}
+use Rattle.std.proofs.Common.{◌≡◌, ℕ, ◌^◌, ◌<◌, ◌≤◌, Bool, true, cond, ltb, List, Some, Ok, Err, decimal, Option, Result, refl, ap, ◌∙◌, arith}
 use Rattle.std.specs.Fmt as written
-use Rattle.std.specs.Str.{bytes_eq}
 use Rattle.std.proofs.lemmas.Slice.Eq.{bytes_eq-Decides}
 use Rattle.std.proofs.lemmas.Bool.{lt-ltb}
 use Rattle.measures.specs.declared.price.Price.{Price}
@@ -12,7 +11,7 @@ use Rattle.sheet.specs.declared.lines.Offer.{Offer}
 use Rattle.sheet.specs.declared.lines.UnitLine.{UnitLine}
 use Rattle.text.specs.Numbers.{number, within}
 use Rattle.sheet_laws.specs.Laws.{Between, OfferWithin, UnitWithin, GroupWithin}
-use Rattle.sheet_text.specs.Lines.{need, fixed, one, two, three, four, eight, period_line, day_ahead_line, forced_line, count_line, offer_line, unit_line, group_line, end_line}
+use Rattle.sheet_text.specs.Lines.{need, one, two, three, four, eight, period_line, day_ahead_line, forced_line, count_line, offer_line, unit_line, group_line, end_line}
 use Rattle.sheet_text.specs.Values.{direction_field, position_field, constraint_field, volume_field, period_volume_field, price_field, imbalance_field}
 use Rattle.sheet_text.specs.declared.faults.LineFault.{LineFault}
 use Rattle.sheet_writer.specs.Rendered.{day_ahead_fields, forced_fields, offer_fields, unit_fields, group_fields, count_fields, end_fields}

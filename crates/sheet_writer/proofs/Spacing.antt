@@ -1,8 +1,8 @@
 -- The fields of a line, put together with spaces, are the line; and a line is parted into its fields.
-use Rattle.std.proofs.Common.{◌≡◌, ℕ, zero, suc, ◌+◌, ◌<◌, ◌≤◌, Bool, true, false, cond, ◌&&◌, eqb, ltb, List, [], ◌∷◌, ◌++◌, length, Some, None, codes, Option, sym, refl, ap, ◌∙◌, append_assoc, arith}
+use Rattle.std.proofs.Common.{◌≡◌, ℕ, ◌<◌, ◌≤◌, Bool, true, false, cond, ◌&&◌, eqb, ltb, List, [], ◌∷◌, ◌++◌, length, Some, None, codes, sym, refl, ap, ◌∙◌, append_assoc, arith}
 use Rattle.std.specs.List.{AllByRecursion as All}
 use Rattle.std.proofs.lemmas.Bool.{and_parts, and_from, eq-eqb, eqb-true, lt-ltb, ltb-true, ne_eqb}
-use Rattle.text.specs.Cuts.{ahead, cut, onto, parts}
+use Rattle.text.specs.Cuts.{cut, onto, parts}
 use Rattle.text.proofs.Parted.{first_part, only_part, parts_some}
 use Rattle.sheet_writer.specs.Rendered.{spaced, line}
 

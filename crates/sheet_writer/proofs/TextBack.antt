@@ -1,5 +1,5 @@
 -- A text is what is written of what was read from it.
-use Rattle.std.proofs.Common.{◌≡◌, ℕ, zero, suc, ◌+◌, ◌^◌, ◌<◌, Bool, true, eqb, List, [], ◌∷◌, ◌++◌, length, Some, None, Ok, Err, codes, decimal, Option, Result, sym, refl, ap, ◌∙◌, subst, append_assoc, append-nil, arith}
+use Rattle.std.proofs.Common.{◌≡◌, ℕ, zero, suc, ◌+◌, ◌^◌, ◌<◌, eqb, List, [], ◌∷◌, ◌++◌, length, Some, None, Ok, Err, codes, Option, Result, sym, refl, ap, ◌∙◌, append_assoc, append-nil, arith}
 use Prim.Native.String.{String}
 use Rattle.std.specs.List.{flat_map}
 use Rattle.std.proofs.lemmas.List.{nil_from_length}
@@ -7,7 +7,7 @@ use Rattle.std.proofs.lemmas.Bool.{eqb-true}
 use Rattle.text.specs.Cuts.{cut, parts}
 use Rattle.text.proofs.Parted.{cut_is}
 use Rattle.sheet_text.specs.Lines.{one, two, three, four, eight, period_line, day_ahead_line, forced_line, count_line, offer_line, unit_line, group_line, end_line}
-use Rattle.sheet_text.specs.Reading.{Left, Reported, then, line_of, a_line, entries, a_list, finished, the_end, inside, reading}
+use Rattle.sheet_text.specs.Reading.{Left, then, line_of, a_line, entries, a_list, finished, the_end, reading}
 use Rattle.sheet_text.specs.declared.faults.LineFault.{LineFault}
 use Rattle.sheet_text.specs.declared.faults.Section.TheVariants as section
 use Rattle.sheet_writer.specs.Laws.{text_of, ReadIsWrittenBack}

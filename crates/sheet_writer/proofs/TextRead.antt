@@ -1,11 +1,8 @@
 -- The text of a sheet within its limits is read as that sheet.
-use Rattle.std.proofs.Common.{◌≡◌, ℕ, zero, suc, ◌+◌, ◌^◌, ◌<◌, ◌≤◌, true, List, [], ◌∷◌, ◌++◌, length, Some, None, Ok, Err, codes, Option, Result, sym, refl, ap, ◌∙◌, append_assoc, append-nil, arith}
+use Rattle.std.proofs.Common.{◌≡◌, ℕ, ◌+◌, ◌^◌, ◌<◌, ◌≤◌, true, List, [], ◌∷◌, ◌++◌, length, Ok, codes, Result, sym, refl, ap, ◌∙◌, append_assoc, append-nil, arith}
 use Prim.Native.String.{String}
 use Rattle.std.specs.List.{flat_map, AllByRecursion as All}
-use Rattle.sheet.specs.declared.lines.GroupLine.{GroupLine}
-use Rattle.sheet.specs.declared.lines.Offer.{Offer}
-use Rattle.sheet.specs.declared.lines.UnitLine.{UnitLine}
-use Rattle.text.specs.Cuts.{cut, parts}
+use Rattle.text.specs.Cuts.{parts}
 use Rattle.sheet_laws.specs.Laws.{OfferWithin, UnitWithin, GroupWithin, Rises, WithinLimits}
 use Rattle.sheet_text.specs.Lines.{one, two, three, four, eight, period_line, day_ahead_line, forced_line, count_line, offer_line, unit_line, group_line, end_line}
 use Rattle.sheet_text.specs.Reading.{Left, Reported, then, line_of, a_line, entries, a_list, finished, the_end, inside, reading}
@@ -13,8 +10,8 @@ use Rattle.sheet_text.specs.declared.faults.LineFault.{LineFault}
 use Rattle.sheet_text.specs.declared.faults.Section.{Section}
 use Rattle.sheet_text.specs.declared.faults.Section.TheVariants as section
 use Rattle.sheet_text.specs.declared.faults.SheetFault.{SheetFault}
-use Rattle.sheet_writer.specs.Laws.{text_of, WrittenIsReadBack}
-use Rattle.sheet_writer.specs.Rendered.{spaced, line, day_ahead_fields, forced_fields, offer_fields, unit_fields, group_fields, count_fields, end_fields, list_text, rendered}
+use Rattle.sheet_writer.specs.Laws.{WrittenIsReadBack}
+use Rattle.sheet_writer.specs.Rendered.{line, day_ahead_fields, forced_fields, offer_fields, unit_fields, group_fields, count_fields, end_fields, list_text, rendered}
 use Rattle.sheet_writer.proofs.LinesBack.{place_fields}
 use Rattle.sheet_writer.proofs.LinesRead.{Says, period_said, day_ahead_said, forced_said, count_said, offer_said, unit_said, group_said, end_said}
 use Rattle.sheet_writer.proofs.Spacing.{above, parts_spaced, cut_line}

@@ -1,5 +1,5 @@
 -- A field's value is written as the field, and read from what is written.
-use Rattle.std.proofs.Common.{◌≡◌, ℕ, zero, suc, ◌≤◌, Bool, true, false, cond, eqb, List, [], ◌∷◌, length, get_or, ℤ, nat_abs, Some, None, decimal, Option, sym, refl, ap, ◌∙◌, arith}
+use Rattle.std.proofs.Common.{◌≡◌, ℕ, zero, suc, ◌≤◌, Bool, true, false, cond, eqb, List, [], ◌∷◌, length, get_or, nat_abs, Some, None, decimal, Option, sym, refl, ap, ◌∙◌, arith}
 use Prim.Native.String.{String}
 use native.Mathlib.Decide.{dec_le}
 use Rattle.std.specs.Fmt as written

@@ -13,15 +13,15 @@ loop-entry-preserved g c =
     let text = λ (x : g.row.L.Denot). line (g.L.EntryText.fields x) in
     let x = c.entry-item.result in
     each_more text c.args.entries.now (written c.args.page.now) c.loop-entry.entry-index (written c.loop-entry.page) c.loop-entry.invariant x x
-    (written c.put-on.new.page) c.loop-entry-test.true c.entry-item.is (c.in-ok-put-on.ensures.after refl)
+    (written c.put_on.new.page) c.loop-entry-test.true c.entry-item.is (c.in_ok-put_on.ensures.after refl)
 
-pub returns-in-err-put-on : goal.returns-in-err-put-on
-returns-in-err-put-on g c =
+pub returns-in_err-put_on : goal.returns-in_err-put_on
+returns-in_err-put_on g c =
     let text = λ (x : g.row.L.Denot). line (g.L.EntryText.fields x) in
     let x = c.entry-item.result in
-    let refused : is_ok c.from-residual.result ≡ false = search rules in
+    let refused : is_ok c.from_residual.result ≡ false = search rules in
     each_refused text c.args.entries.now (written c.args.page.now) c.loop-entry.entry-index (written c.loop-entry.page) c.loop-entry.invariant 6556 x x
-    (written c.put-on.new.page) c.from-residual.result c.loop-entry-test.true c.entry-item.is refused c.in-err-put-on.ensures.fits
+    (written c.put_on.new.page) c.from_residual.result c.loop-entry-test.true c.entry-item.is refused c.in_err-put_on.ensures.fits
 
 pub returns : goal.returns
 returns g c =

@@ -14,19 +14,19 @@ second s = line (day_ahead_fields s.day_ahead)
 abbrev third : Sheet → List ℕ
 third s = line (forced_fields s.forced)
 
-pub returns-in-err-put-period : goal.returns-in-err-put-period
-returns-in-err-put-period c =
+pub returns-in_err-put_period : goal.returns-in_err-put_period
+returns-in_err-put_period c =
     let s = c.args.sheet.now in
-    first_refused 6556 (first c.args.place) (second s ++ third s) refl (search rules) c.in-err-put-period.ensures
+    first_refused 6556 (first c.args.place) (second s ++ third s) refl (search rules) c.in_err-put_period.ensures
 
-pub returns-in-err-put-day-ahead : goal.returns-in-err-put-day-ahead
-returns-in-err-put-day-ahead c =
+pub returns-in_err-put_day_ahead : goal.returns-in_err-put_day_ahead
+returns-in_err-put_day_ahead c =
     let s = c.args.sheet.now in
-    both_put 6556 (first c.args.place) (second s ++ third s) refl c.in-ok-put-period.ensures
-    (first_refused 6556 (second s) (third s) refl (search rules) c.in-err-put-day-ahead.ensures)
+    both_put 6556 (first c.args.place) (second s ++ third s) refl c.in_ok-put_period.ensures
+    (first_refused 6556 (second s) (third s) refl (search rules) c.in_err-put_day_ahead.ensures)
 
 pub returns : goal.returns
 returns c =
     let s = c.args.sheet.now in
-    both_put 6556 (first c.args.place) (second s ++ third s) refl c.in-ok-put-period.ensures
-    (both_put 6556 (second s) (third s) refl c.in-ok-put-day-ahead.ensures c.put-forced.ensures)
+    both_put 6556 (first c.args.place) (second s ++ third s) refl c.in_ok-put_period.ensures
+    (both_put 6556 (second s) (third s) refl c.in_ok-put_day_ahead.ensures c.put_forced.ensures)

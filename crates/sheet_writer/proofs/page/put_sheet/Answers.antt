@@ -29,42 +29,42 @@ after_head s = offers s ++ after_offers s
 list_put : {A X E : Type 0} (keyword : List ℕ) (fields : A → List (List ℕ)) {xs ys : List A} {a b : List ℕ} {r : Result X E} → xs ≡ ys → Puts 6556 (list_text keyword fields xs) a b r → Puts 6556 (list_text keyword fields ys) a b r
 list_put keyword fields e p = put_as 6556 (ap (list_text keyword fields) e) p
 
-pub returns-in-err-put-head : goal.returns-in-err-put-head
+pub returns-in_err-put_head : goal.returns-in_err-put_head
 unfolding rendered
-returns-in-err-put-head c =
+returns-in_err-put_head c =
     let s = figures_of c.args.sheet.now in
-    first_refused 6556 _ (after_head s) refl (search rules) c.in-err-put-head.ensures
+    first_refused 6556 _ (after_head s) refl (search rules) c.in_err-put_head.ensures
 
-pub returns-in-err-put-list : goal.returns-in-err-put-list
+pub returns-in_err-put_list : goal.returns-in_err-put_list
 unfolding rendered
-returns-in-err-put-list c =
+returns-in_err-put_list c =
     let s = figures_of c.args.sheet.now in
-    both_put 6556 _ (after_head s) refl c.in-ok-put-head.ensures
-    (first_refused 6556 (offers s) (after_offers s) refl (search rules) (list_put (codes "OFFERS") offer_fields c.as-slice.ensures.value c.in-err-put-list.ensures))
+    both_put 6556 _ (after_head s) refl c.in_ok-put_head.ensures
+    (first_refused 6556 (offers s) (after_offers s) refl (search rules) (list_put (codes "OFFERS") offer_fields c.as_slice.ensures.value c.in_err-put_list.ensures))
 
-pub returns-in-err-put-list-2 : goal.returns-in-err-put-list-2
+pub returns-in_err-put_list-2 : goal.returns-in_err-put_list-2
 unfolding rendered
-returns-in-err-put-list-2 c =
+returns-in_err-put_list-2 c =
     let s = figures_of c.args.sheet.now in
-    both_put 6556 _ (after_head s) refl c.in-ok-put-head.ensures
-    (both_put 6556 (offers s) (after_offers s) refl (list_put (codes "OFFERS") offer_fields c.as-slice.ensures.value c.in-ok-put-list.ensures)
-    (first_refused 6556 (units s) (after_units s) refl (search rules) (list_put (codes "UNITS") unit_fields c.as-slice-2.ensures.value c.in-err-put-list-2.ensures)))
+    both_put 6556 _ (after_head s) refl c.in_ok-put_head.ensures
+    (both_put 6556 (offers s) (after_offers s) refl (list_put (codes "OFFERS") offer_fields c.as_slice.ensures.value c.in_ok-put_list.ensures)
+    (first_refused 6556 (units s) (after_units s) refl (search rules) (list_put (codes "UNITS") unit_fields c.as_slice-2.ensures.value c.in_err-put_list-2.ensures)))
 
-pub returns-in-err-put-list-3 : goal.returns-in-err-put-list-3
+pub returns-in_err-put_list-3 : goal.returns-in_err-put_list-3
 unfolding rendered
-returns-in-err-put-list-3 c =
+returns-in_err-put_list-3 c =
     let s = figures_of c.args.sheet.now in
-    both_put 6556 _ (after_head s) refl c.in-ok-put-head.ensures
-    (both_put 6556 (offers s) (after_offers s) refl (list_put (codes "OFFERS") offer_fields c.as-slice.ensures.value c.in-ok-put-list.ensures)
-    (both_put 6556 (units s) (after_units s) refl (list_put (codes "UNITS") unit_fields c.as-slice-2.ensures.value c.in-ok-put-list-2.ensures)
-    (first_refused 6556 (groups s) (line end_fields) refl (search rules) (list_put (codes "GROUPS") group_fields c.as-slice-3.ensures.value c.in-err-put-list-3.ensures))))
+    both_put 6556 _ (after_head s) refl c.in_ok-put_head.ensures
+    (both_put 6556 (offers s) (after_offers s) refl (list_put (codes "OFFERS") offer_fields c.as_slice.ensures.value c.in_ok-put_list.ensures)
+    (both_put 6556 (units s) (after_units s) refl (list_put (codes "UNITS") unit_fields c.as_slice-2.ensures.value c.in_ok-put_list-2.ensures)
+    (first_refused 6556 (groups s) (line end_fields) refl (search rules) (list_put (codes "GROUPS") group_fields c.as_slice-3.ensures.value c.in_err-put_list-3.ensures))))
 
 pub returns : goal.returns
 unfolding rendered
 returns c =
     let s = figures_of c.args.sheet.now in
-    both_put 6556 _ (after_head s) refl c.in-ok-put-head.ensures
-    (both_put 6556 (offers s) (after_offers s) refl (list_put (codes "OFFERS") offer_fields c.as-slice.ensures.value c.in-ok-put-list.ensures)
-    (both_put 6556 (units s) (after_units s) refl (list_put (codes "UNITS") unit_fields c.as-slice-2.ensures.value c.in-ok-put-list-2.ensures)
-    (both_put 6556 (groups s) (line end_fields) refl (list_put (codes "GROUPS") group_fields c.as-slice-3.ensures.value c.in-ok-put-list-3.ensures)
+    both_put 6556 _ (after_head s) refl c.in_ok-put_head.ensures
+    (both_put 6556 (offers s) (after_offers s) refl (list_put (codes "OFFERS") offer_fields c.as_slice.ensures.value c.in_ok-put_list.ensures)
+    (both_put 6556 (units s) (after_units s) refl (list_put (codes "UNITS") unit_fields c.as_slice-2.ensures.value c.in_ok-put_list-2.ensures)
+    (both_put 6556 (groups s) (line end_fields) refl (list_put (codes "GROUPS") group_fields c.as_slice-3.ensures.value c.in_ok-put_list-3.ensures)
     (put_whole 6556 c.put.ensures.fits c.put.ensures.after))))

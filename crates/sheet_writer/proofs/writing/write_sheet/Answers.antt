@@ -6,16 +6,16 @@ use Rattle.sheet_writer.specs.Rendered.{text_of_sheet}
 use Rattle.sheet_writer.proofs.AnySheet.{any_length}
 use Rattle.sheet_writer.proofs.writing.write_sheet.Goals as goal
 
-pub returns-in-err-put-sheet : goal.returns-in-err-put-sheet
-returns-in-err-put-sheet c = absurd (never_refused 6556 c.new-page.ensures (any_length c.args.place c.args.sheet.now) refl c.in-err-put-sheet.ensures)
+pub returns-in_err-put_sheet : goal.returns-in_err-put_sheet
+returns-in_err-put_sheet c = absurd (never_refused 6556 c.new-page.ensures (any_length c.args.place c.args.sheet.now) refl c.in_err-put_sheet.ensures)
 
 pub returns : goal.returns
 returns c =
     let text = text_of_sheet c.args.place c.args.sheet.now in
     let out = c.args.out.now in
-    let page = written c.put-sheet.new.page in
-    let is : page ≡ text = c.in-ok-put-sheet.ensures.after refl ∙ ap (λ (t : List ℕ). t ++ text) c.new-page.ensures in
+    let page = written c.put_sheet.new.page in
+    let is : page ≡ text = c.in_ok-put_sheet.ensures.after refl ∙ ap (λ (t : List ℕ). t ++ text) c.new-page.ensures in
     record {
-      answer = c.copy-to.ensures.length ∙ ap (λ (t : List ℕ). cond (leb (length t) (length out)) (Some (length t)) None) is;
-      output = copied page text out c.copy-to.result is c.copy-to.ensures.length c.copy-to.ensures.after;
+      answer = c.copy_to.ensures.length ∙ ap (λ (t : List ℕ). cond (leb (length t) (length out)) (Some (length t)) None) is;
+      output = copied page text out c.copy_to.result is c.copy_to.ensures.length c.copy_to.ensures.after;
     }

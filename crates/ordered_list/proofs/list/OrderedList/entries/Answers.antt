@@ -1,5 +1,5 @@
 -- Past the places the count stands for all of them.
-use Rattle.std.proofs.Common.{◌≡◌, ◌-◌, take, ap, ◌∙◌, arith, length-take}
+use Rattle.std.proofs.Common.{◌-◌, arith, length-take}
 use Rattle.ordered_list.proofs.Clamped.{take_clamped}
 use Rattle.ordered_list.proofs.list.OrderedList.entries.Goals as goal
 

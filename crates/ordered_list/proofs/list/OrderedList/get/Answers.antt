@@ -1,5 +1,5 @@
 -- What is found is what the list shows.
-use Rattle.std.proofs.Common.{◌≡◌, Some, ap, ◌∙◌}
+use Rattle.std.proofs.Common.{Some, ap, ◌∙◌}
 use Rattle.ordered_list.specs.Entries.{value_at}
 use Rattle.ordered_list.specs.Listings.{entries}
 use Rattle.ordered_list.proofs.Searching.{some_shown, none_shown}

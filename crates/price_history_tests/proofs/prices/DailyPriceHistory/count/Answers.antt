@@ -5,26 +5,26 @@ use Rattle.price_history.specs.Views.{tallied}
 use Rattle.price_history.proofs.Tallies.{one, tallied_le, tallied_more}
 use Rattle.price_history_tests.specs.Shown.{shown_at}
 use Rattle.price_history_tests.proofs.prices.DailyPriceHistory.count.Goals as goal
-use Rattle.price_history_tests.proofs.prices.DailyPriceHistory.count.Goals.{then-is-some, else-is-some}
+use Rattle.price_history_tests.proofs.prices.DailyPriceHistory.count.Goals.{then-is_some, else-is_some}
 
 pub loop-rank-init : goal.loop-rank-init
 unfolding tallied
 loop-rank-init c = refl
 
-pub overflow-add-count : goal.overflow-add-count
-overflow-add-count c = omega (arith, tallied_le (shown_at c.args.self.now) c.loop-rank.rank, c.loop-rank.invariant)
+pub overflow_add-count : goal.overflow_add-count
+overflow_add-count c = omega (arith, tallied_le (shown_at c.args.self.now) c.loop-rank.rank, c.loop-rank.invariant)
 
 pub loop-rank-preserved : goal.loop-rank-preserved
 loop-rank-preserved c =
     let f = shown_at c.args.self.now in
     let more = tallied_more f c.loop-rank.rank in
-    let here : one c.at-rank.result ≡ one (f c.loop-rank.rank) = ap one c.at-rank.ensures in
-    elim c.if-is-some.branch [
-      | then-is-some w ↦
-          let some : 1 ≡ one c.at-rank.result = ap (λ b. cond b 1 0) w.if-is-some.ensures in
+    let here : one c.at_rank.result ≡ one (f c.loop-rank.rank) = ap one c.at_rank.ensures in
+    elim c.if-is_some.branch [
+      | then-is_some w ↦
+          let some : 1 ≡ one c.at_rank.result = ap (λ b. cond b 1 0) w.if-is_some.ensures in
           omega (arith, some, here, more, w.count-is, c.loop-rank.invariant)
-      | else-is-some w ↦
-          let none : 0 ≡ one c.at-rank.result = ap (λ b. cond b 1 0) w.if-is-some.ensures in
+      | else-is_some w ↦
+          let none : 0 ≡ one c.at_rank.result = ap (λ b. cond b 1 0) w.if-is_some.ensures in
           omega (arith, none, here, more, w.count-is, c.loop-rank.invariant)
     ]
 

@@ -11,11 +11,11 @@ use Rattle.register.proofs.Enrolled.{taken, answer_same, registered_same}
 use Rattle.register.proofs.register.Register.register.Goals as goal
 use Rattle.register.proofs.register.Register.register.Goals.{After-enter}
 
-unit_taken : (c : After-enter) → (is_unit c.args.unit ≡ true) × (c.in-ok-unit.unit.number ≡ c.args.unit)
-unit_taken c = taken (is_unit c.args.unit) _ _ (ap (option_map (λ u. u.number)) (sym c.in-ok-unit.ensures.ok-part) ∙ c.new.ensures)
+unit_taken : (c : After-enter) → (is_unit c.args.unit ≡ true) × (c.in_ok-unit.unit.number ≡ c.args.unit)
+unit_taken c = taken (is_unit c.args.unit) _ _ (ap (option_map (λ u. u.number)) (sym c.in_ok-unit.ensures.ok_part) ∙ c.new.ensures)
 
-party_taken : (c : After-enter) → (is_party c.args.party ≡ true) × (c.in-ok-party.party.number ≡ c.args.party)
-party_taken c = taken (is_party c.args.party) _ _ (ap (option_map (λ p. p.number)) (sym c.in-ok-party.ensures.ok-part) ∙ c.new-2.ensures)
+party_taken : (c : After-enter) → (is_party c.args.party ≡ true) × (c.in_ok-party.party.number ≡ c.args.party)
+party_taken c = taken (is_party c.args.party) _ _ (ap (option_map (λ p. p.number)) (sym c.in_ok-party.ensures.ok_part) ∙ c.new-2.ensures)
 
 answer : (c : After-enter) → told entry_told c.enter.result ≡ register_answer (roll c.args.self.now) c.args.unit c.args.party
 answer c =
@@ -23,7 +23,7 @@ answer c =
     let l = listing register.units in
     ap (told entry_told) (c.enter.ensures.answer register.ordered)
     ∙ ap (λ unit. told entry_told (entry_answer l unit)) (unit_taken c).1
-    ∙ answer_same l c.args.unit c.in-ok-party.party (unit_taken c).0
+    ∙ answer_same l c.args.unit c.in_ok-party.party (unit_taken c).0
     ∙ ap (register_answer (roll register) c.args.unit) (party_taken c).1
 
 after : (c : After-enter) → roll_of (listing c.enter.new.self) ≡ registered (roll c.args.self.now) c.args.unit c.args.party
@@ -31,16 +31,16 @@ after c =
     let register = c.args.self.now in
     let l = listing register.units in
     ap roll_of (c.enter.ensures.after register.ordered)
-    ∙ ap (λ unit. roll_of (entered l unit c.in-ok-party.party)) (unit_taken c).1
-    ∙ registered_same l c.args.unit c.in-ok-party.party (unit_taken c).0
+    ∙ ap (λ unit. roll_of (entered l unit c.in_ok-party.party)) (unit_taken c).1
+    ∙ registered_same l c.args.unit c.in_ok-party.party (unit_taken c).0
     ∙ ap (registered (roll register) c.args.unit) (party_taken c).1
 
-pub returns-in-err-enter : goal.returns-in-err-enter
-returns-in-err-enter c =
-    let then = (goal.at.returns-in-err-enter c).After-enter in
-    let refused = err_from_is_err_and c.from-residual-in-err-enter.result c.from-residual-in-err-enter.ensures.1 in
+pub returns-in_err-enter : goal.returns-in_err-enter
+returns-in_err-enter c =
+    let then = (goal.at.returns-in_err-enter c).After-enter in
+    let refused = err_from_is_err_and c.from_residual-in_err-enter.result c.from_residual-in_err-enter.ensures.1 in
     record {
-      answer = refused.1 ∙ ap Err refused.2 ∙ ap (told entry_told) (sym c.in-err-enter.was) ∙ answer then;
+      answer = refused.1 ∙ ap Err refused.2 ∙ ap (told entry_told) (sym c.in_err-enter.was) ∙ answer then;
       after = after then;
     }
 
@@ -48,6 +48,6 @@ pub returns : goal.returns
 returns c =
     let then = (goal.at.returns c).After-enter in
     record {
-      answer = ap (told entry_told) (sym c.in-ok-enter.was) ∙ answer then;
+      answer = ap (told entry_told) (sym c.in_ok-enter.was) ∙ answer then;
       after = after then;
     }
