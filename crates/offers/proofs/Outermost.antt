@@ -1,14 +1,14 @@
 -- The outermost price bounds each picked price, and is one of them.
-use Rattle.std.proofs.Common.{◌≡◌, Bool, true, false, cond, List, [], ◌∷◌, ◌++◌, ℤ, ◌≤ℤ◌, Some, None, fold, Option, sym, refl, ◌∙◌, append_assoc, append-nil, arith}
+use Rattle.std.proofs.Common.{◌≡◌, Bool, true, false, cond, List, [], ◌∷◌, ◌++◌, ℤ, Some, None, fold, Option, sym, refl, ◌∙◌, append_assoc, append-nil, arith}
 use lib.Signed.{lt_z, ≤ℤ_refl}
-use Rattle.std.specs.List.{ContainsAt as Has, AllByRecursion as All}
+use Rattle.std.specs.List.{ContainsAt as Has}
 use Rattle.std.proofs.ByRecursion.{All-push, All-weaker, has_push, has_append_left}
 use Rattle.std.proofs.lemmas.Int.{ints}
 use Rattle.measures.specs.declared.price.Price.{Price}
 use Rattle.sheet.specs.declared.lines.Offer.{Offer}
 use Rattle.sheet.specs.declared.lines.Direction.{Direction}
 use Rattle.sheet.specs.declared.lines.Direction.TheVariants.{Up, Down}
-use Rattle.offers.specs.Forming.{outer, outer_of, farther, outermost}
+use Rattle.offers.specs.Forming.{outer, outer_of, farther}
 use Rattle.offers.specs.Laws.{Inside, Outermost, OutermostPricesAreOffered}
 
 clash : {P : Type 0} (b : Bool) → b ≡ true → b ≡ false → P

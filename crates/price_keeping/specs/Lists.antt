@@ -1,5 +1,5 @@
 -- What a list of prices shows.
-use Rattle.std.specs.Prelude.{◌≡◌, ◌≤◌}
+use Rattle.std.specs.Prelude.{◌≤◌}
 use Rattle.std.proofs.Common.{arith, length-take}
 use Rattle.measures.specs.declared.price.Price.{Price}
 use Rattle.ordered_list.specs.Listings.{Listing, listing}

@@ -1,5 +1,5 @@
 -- Sums over the quarters, one quarter more.
-use Rattle.std.proofs.Common.{◌≡◌, ℕ, zero, suc, ◌+◌, ◌-◌, ◌*◌, ◌≤◌, ℤ, pos, ◌+ℤ◌, refl, ap, ◌∙◌, arith}
+use Rattle.std.proofs.Common.{◌≡◌, ℕ, zero, suc, ◌+◌, ◌-◌, ◌≤◌, ℤ, ◌+ℤ◌, ap, ◌∙◌, arith}
 use Rattle.pricing.specs.Prices.{up_to}
 
 -- the volumes of the quarters 1 to n

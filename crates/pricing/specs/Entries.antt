@@ -1,5 +1,5 @@
 -- The formed prices that a sheet enters into a history, by rank.
-use Rattle.std.specs.Prelude.{ℕ, List, [], ◌∷◌, map, Option}
+use Rattle.std.specs.Prelude.{ℕ, List, [], ◌∷◌, Option}
 use Rattle.measures.specs.declared.price.Price.{Price}
 use Rattle.price_history.specs.Keys.{rank_on, rank_of}
 use Rattle.sheet.specs.Figures.{Figures}

@@ -1,9 +1,8 @@
 -- The prices of a period, in kopecks per MWh.
-use Rattle.std.specs.Prelude.{ℕ, zero, suc, ◌+◌, List, ℤ, pos, ◌+ℤ◌, ◌*ℤ◌, Option, unsigned_abs}
+use Rattle.std.specs.Prelude.{ℕ, zero, suc, ℤ, pos, ◌+ℤ◌, ◌*ℤ◌, unsigned_abs}
 use Rattle.std.specs.Option.{unwrap_or, option_map}
 use Rattle.measures.specs.Rounding.{quotient}
 use Rattle.price_history.specs.Means.{mean_before}
-use Rattle.sheet.specs.declared.lines.Offer.{Offer}
 use Rattle.sheet.specs.declared.lines.Direction.{Direction}
 use Rattle.sheet.specs.declared.lines.Direction.TheVariants.{Up, Down}
 use Rattle.offers.specs.declared.span.Span.{Span}

@@ -6,7 +6,6 @@ use Rattle.measures.specs.declared.volume.Volume.{Volume}
 use Rattle.measures.specs.declared.volume.PeriodVolume.{PeriodVolume}
 use Rattle.price_history.specs.Views.{View}
 use Rattle.price_history.specs.Means.{mean}
-use Rattle.sheet.specs.Figures.{Figures}
 use Rattle.sheet.specs.declared.lines.Offer.{Offer}
 use Rattle.sheet.specs.declared.lines.Direction.{Direction}
 use Rattle.sheet.specs.declared.lines.Direction.TheVariants.{Up, Down}

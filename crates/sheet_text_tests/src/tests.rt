@@ -201,12 +201,12 @@ fn refuses(
     section: &str,
 ) -> Result<(), Fail> {
     match read(text.as_bytes()) {
-        Ok(_) => Err(Fail::new("the text is read")),
+        Ok(_) => panic!(rt; "the text is read: {text}"),
         Err(found) => {
-            assert_eq!(rt; found.fault.kind.number(), kind);
-            assert_eq!(rt; found.fault.line, line);
-            assert_eq!(rt; found.fault.field, field);
-            assert!(rt; found.section.word() == section);
+            assert_eq!(rt; found.fault.kind.number(), kind, "{text}");
+            assert_eq!(rt; found.fault.line, line, "{text}");
+            assert_eq!(rt; found.fault.field, field, "{text}");
+            assert!(rt; found.section.word() == section, "{text}");
             Ok(())
         }
     }
@@ -223,8 +223,7 @@ fn wrong_lines_are_refused(rt: HostRuntime) -> Result<(), Fail> {
             wrong.0,
             wrong.3,
             section_of(wrong.0),
-        )
-        .note(wrong.1)?;
+        )?;
     }
     Ok(())
 }
@@ -242,7 +241,7 @@ fn limits_are_read(rt: HostRuntime) -> Result<(), Fail> {
 fn wrong_texts_are_refused(rt: HostRuntime) -> Result<(), Fail> {
     for wrong in &BEHIND {
         let text = front(rt.alloc(), wrong.0, wrong.1)?;
-        refuses(&rt, text.as_str(), wrong.2, wrong.3, wrong.4, wrong.5).note(wrong.1)?;
+        refuses(&rt, text.as_str(), wrong.2, wrong.3, wrong.4, wrong.5)?;
     }
     Ok(())
 }

@@ -1,4 +1,4 @@
-use Rattle.std.proofs.Common.{◌≡◌, ◌+◌, ◌-◌, ◌*◌, ◌≤◌, nat_abs}
+use Rattle.std.proofs.Common.{◌≡◌, ◌-◌, ◌*◌, ◌≤◌, nat_abs}
 use Rattle.sheet.specs.Listed.{listed}
 use Rattle.offers.specs.Volumes.{in_quarter}
 use Rattle.pricing.specs.Cases.{case}

@@ -1,5 +1,5 @@
 -- A list that is made shows nothing.
-use Rattle.std.proofs.Common.{◌≡◌, sym, ap, subst}
+use Rattle.std.proofs.Common.{sym, ap, subst}
 use Rattle.measures.specs.declared.price.Price.{Price}
 use Rattle.price_history.specs.Empty.{tallied_none}
 use Rattle.price_history.specs.Keys.{span}
@@ -7,8 +7,8 @@ use Rattle.price_keeping.specs.Counts.{Counted}
 use Rattle.price_keeping.specs.Lists.{view_of}
 use Rattle.price_keeping.proofs.list.PriceList.over.Goals as goal
 
-pub invariant-of-result : goal.invariant-of-result
-invariant-of-result c = (c.over.ensures.ordered, (subst Counted (sym c.over.ensures.listing) (sym (tallied_none Price span)), tt))
+pub invariant_of-result : goal.invariant_of-result
+invariant_of-result c = record { ordered = c.over.ensures.ordered; counted = subst Counted (sym c.over.ensures.listing) (sym (tallied_none Price span)) }
 
 pub returns : goal.returns
 returns c = ap view_of c.over.ensures.listing

@@ -1,5 +1,5 @@
 -- A price is struck from the ordered list.
-use Rattle.std.proofs.Common.{◌≡◌, Err, sym, ap, ◌∙◌, subst}
+use Rattle.std.proofs.Common.{Err, sym, ap, ◌∙◌, subst}
 use Rattle.std.proofs.lemmas.Result.{err_from_is_err_and}
 use Rattle.ordered_list.specs.Listings.{listing}
 use Rattle.ordered_list.proofs.Told.{told}
@@ -11,20 +11,21 @@ use Rattle.price_keeping.specs.declared.refusal.KeepRefusal.TheVariants.{Absent}
 use Rattle.price_keeping.proofs.Listed.{strike_same, struck_same, struck_counted}
 use Rattle.price_keeping.proofs.list_keeping.PriceListPriceKeeping.strike.Goals as goal
 
-pub invariant-of-self : goal.invariant-of-self
-invariant-of-self c =
-    let list = c.args.self.now in (
-      c.strike.ensures.ordered list.ordered,
-      (subst Counted (sym (c.strike.ensures.after list.ordered)) (struck_counted (listing list.prices) list.counted (rank_of c.args.key) (rank_below c.args.key)), tt),
-    )
+pub invariant_of-self : goal.invariant_of-self
+invariant_of-self c =
+    let list = c.args.self.now in
+    record {
+      ordered = c.strike.ensures.ordered list.ordered;
+      counted = subst Counted (sym (c.strike.ensures.after list.ordered)) (struck_counted (listing list.prices) list.counted (rank_of c.args.key) (rank_below c.args.key));
+    }
 
-pub returns-in-err-strike : goal.returns-in-err-strike
-returns-in-err-strike c =
+pub returns-in_err-strike : goal.returns-in_err-strike
+returns-in_err-strike c =
     let list = c.args.self.now in
     let rank = rank_of c.args.key in
-    let refused = err_from_is_err_and c.from-residual.result c.from-residual.ensures.1 in
+    let refused = err_from_is_err_and c.from_residual.result c.from_residual.ensures.1 in
     record {
-      answer = refused.1 ∙ ap Err refused.2 ∙ ap (told (λ _. Absent)) (c.in-err-strike.ensures.answer list.ordered) ∙ strike_same (listing list.prices) list.counted rank;
+      answer = refused.1 ∙ ap Err refused.2 ∙ ap (told (λ _. Absent)) (c.in_err-strike.ensures.answer list.ordered) ∙ strike_same (listing list.prices) list.counted rank;
       after = ap view_of (c.strike.ensures.after list.ordered) ∙ struck_same (listing list.prices) list.counted rank;
     }
 
@@ -33,6 +34,6 @@ returns c =
     let list = c.args.self.now in
     let rank = rank_of c.args.key in
     record {
-      answer = ap (told (λ _. Absent)) (c.in-ok-strike.ensures.answer list.ordered) ∙ strike_same (listing list.prices) list.counted rank;
+      answer = ap (told (λ _. Absent)) (c.in_ok-strike.ensures.answer list.ordered) ∙ strike_same (listing list.prices) list.counted rank;
       after = ap view_of (c.strike.ensures.after list.ordered) ∙ struck_same (listing list.prices) list.counted rank;
     }

@@ -15,19 +15,19 @@ write c =
     written c.args.self.now c.rank-rank.result below (Some c.args.price) (roomy c.args.self.now c.rank-rank.result below c.if-self.false)
 
 absent : (c : After-rank-rank) → (table_view c.args.self.now).shown c.rank-rank.result ≡ None
-absent c = ap (table_view c.args.self.now).shown c.rank-rank.ensures.value ∙ sym c.price-at.ensures ∙ none_from _ (sym c.if-is-some.ensures)
+absent c = ap (table_view c.args.self.now).shown c.rank-rank.ensures.value ∙ sym c.price_at.ensures ∙ none_from _ (sym c.if-is_some.ensures)
 
 pub bounds-self-rank : goal.bounds-self-rank
 bounds-self-rank c = (write c).index
 
-pub overflow-add-self : goal.overflow-add-self
-overflow-add-self c = omega (arith, c.args.self.now.counted, tallied_le (table_view c.args.self.now).shown span)
+pub overflow_add-self : goal.overflow_add-self
+overflow_add-self c = omega (arith, c.args.self.now.counted, tallied_le (table_view c.args.self.now).shown span)
 
-pub invariant-of-self : goal.invariant-of-self
-invariant-of-self c =
-    let then = (goal.at.invariant-of-self c).After-rank-rank in
+pub invariant_of-self : goal.invariant_of-self
+invariant_of-self c =
+    let then = (goal.at.invariant_of-self c).After-rank-rank in
     let none : one ((table_view c.args.self.now).shown c.rank-rank.result) ≡ 0 = ap one (absent then) in
-    ((write then).placed, (omega (arith, none, (write then).counts), tt))
+    record { placed = (write then).placed; counted = omega (arith, none, (write then).counts) }
 
 pub returns : goal.returns
 returns c =
