@@ -1,5 +1,5 @@
 -- Each turn enters as the history answers.
-use Rattle.std.proofs.Common.{◌≡◌, ℕ, ◌+◌, List, map, drop, Some, None, sym, refl, ap, ◌∙◌}
+use Rattle.std.proofs.Common.{◌+◌, List, map, drop, sym, ap, ◌∙◌}
 use Rattle.std.proofs.lemmas.List.{at_drop_more, at_drop_all}
 use Rattle.price_history.specs.Keys.{rank_of}
 use Rattle.price_history.specs.Views.{View}
@@ -7,7 +7,7 @@ use Rattle.pricing.specs.Changes.{plain}
 use Rattle.pricing.specs.declared.change.PriceChange.{PriceChange}
 use Rattle.price_changes.specs.Steps.{enter_at, enters}
 use Rattle.price_changes.proofs.steps.enter_all.Goals as goal
-use Rattle.price_changes.proofs.steps.enter_all.Goals.{in-Some, in-default}
+use Rattle.price_changes.proofs.steps.enter_all.Goals.{in-Some, in_default}
 
 abbrev from : View → List PriceChange → View
 from v cs = enters v (map plain cs)
@@ -25,9 +25,9 @@ loop-change-preserved g c =
           ap (λ h. enters (view h) rest) w.history-is
           ∙ ap (λ u. enters u rest) (w.enter.ensures.after ∙ sym (ap (enter_at v (rank_of item.key)) w.in-Some.is))
           ∙ same ∙ sym more ∙ c.loop-change.invariant
-      | in-default w ↦
+      | in_default w ↦
           ap (λ h. enters (view h) rest) w.history-is
-          ∙ ap (λ u. enters u rest) (sym (ap (enter_at v (rank_of item.key)) w.in-default.is))
+          ∙ ap (λ u. enters u rest) (sym (ap (enter_at v (rank_of item.key)) w.in_default.is))
           ∙ same ∙ sym more ∙ c.loop-change.invariant
     ]
 

@@ -1,9 +1,8 @@
 -- Each turn strikes as the history answers.
-use Rattle.std.proofs.Common.{◌≡◌, ℕ, ◌+◌, cond, List, map, drop, sym, refl, ap, ◌∙◌}
+use Rattle.std.proofs.Common.{◌+◌, List, map, drop, sym, ap, ◌∙◌}
 use Rattle.std.proofs.lemmas.List.{at_drop_more, at_drop_all}
 use Rattle.std.proofs.lemmas.Bool.{cond-true, cond-false}
 use Rattle.price_history.specs.Views.{View}
-use Rattle.price_keeping.specs.Changes.{struck}
 use Rattle.pricing.specs.Changes.{plain}
 use Rattle.pricing.specs.declared.change.PriceChange.{PriceChange}
 use Rattle.price_changes.specs.Changed.{touched}
