@@ -7,7 +7,7 @@ use Rattle.std.proofs.lemmas.List.{take_more_set, replicate_more, take-replicate
 use Rattle.sheet.proofs.Clipped.{take_clipped}
 use Rattle.sheet.specs.Listed.{listed}
 use Rattle.sheet.specs.declared.entries.Entries.{Entries}
-use Rattle.shelf.specs.Packed.{behind, behind_full, packed}
+use Rattle.shelf.specs.Packed.{behind, packed}
 
 module _ {T : Type 0} where
   pub none_filled : (items : List T) (len n count : ℕ) (filler : T) → length items ≡ n → count ≡ min len n → take count items ≡ take len items ++ replicate (count - count) filler

@@ -2,7 +2,6 @@
 use Rattle.std.specs.Prelude.{◌≡◌, ℕ, false, List, ◌++◌, length, take, replicate, pos}
 use Rattle.std.proofs.Common.{arith, length-take, length-append}
 use Rattle.std.proofs.lemmas.List.{length-replicate}
-use Rattle.measures.specs.declared.price.Price.{Price}
 use Rattle.measures.specs.declared.volume.Volume.{Volume}
 use Rattle.sheet.specs.Figures.{Figures}
 use Rattle.sheet.specs.declared.entries.Entries.{Entries}

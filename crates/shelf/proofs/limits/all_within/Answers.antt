@@ -1,15 +1,15 @@
 -- All pass where each line at hand passes.
-use Rattle.std.proofs.Common.{◌≡◌, ◌+◌, ◌&&◌, drop, sym, refl, ap, ◌∙◌}
+use Rattle.std.proofs.Common.{◌+◌, ◌&&◌, drop, sym, ap, ◌∙◌}
 use Rattle.std.specs.List.{list_all}
 use Rattle.std.proofs.lemmas.List.{at_drop_more, at_drop_all}
 use Rattle.shelf.proofs.limits.all_within.Goals as goal
 
-pub returns-then-not-is-within-limits : goal.returns-then-not-is-within-limits
-returns-then-not-is-within-limits g c =
+pub returns-then-not-is_within_limits : goal.returns-then-not-is_within_limits
+returns-then-not-is_within_limits g c =
     let p = g.L.Limited.within in
     let lines = c.args.lines.now in
     let at = c.loop-line.line-index in
-    ap (λ b. b && list_all p (drop (at + 1) lines)) (c.if-not-is-within-limits.ensures ∙ ap p c.line-item.is)
+    ap (λ b. b && list_all p (drop (at + 1) lines)) (c.if-not-is_within_limits.ensures ∙ ap p c.line-item.is)
     ∙ sym (at_drop_more (list_all p) lines at c.line-item.result c.loop-line-test.true)
     ∙ c.loop-line.invariant
 
@@ -18,7 +18,7 @@ loop-line-preserved g c =
     let p = g.L.Limited.within in
     let lines = c.args.lines.now in
     let at = c.loop-line.line-index in
-    ap (λ b. b && list_all p (drop (at + 1) lines)) (c.if-not-is-within-limits.ensures ∙ ap p c.line-item.is)
+    ap (λ b. b && list_all p (drop (at + 1) lines)) (c.if-not-is_within_limits.ensures ∙ ap p c.line-item.is)
     ∙ sym (at_drop_more (list_all p) lines at c.line-item.result c.loop-line-test.true)
     ∙ c.loop-line.invariant
 

@@ -1,5 +1,5 @@
 -- The places behind the entries are filled one after another.
-use Rattle.std.proofs.Common.{◌≡◌, ◌<◌, ◌≤◌, length, ◌∙◌, arith, length-set}
+use Rattle.std.proofs.Common.{◌≤◌, ◌∙◌, arith, length-set}
 use Rattle.sheet.specs.Listed.{listed}
 use Rattle.shelf.proofs.Filling.{none_filled, one_filled, is_packed}
 use Rattle.shelf.proofs.packing.pack.Goals as goal
