@@ -1,6 +1,6 @@
 -- The rows of a decade are among those of the month.
 use Rattle.std.proofs.Common.{◌≡◌, ℕ, ◌+◌, ◌*◌, ◌≤◌, ltb, mul-le-mul_right, arith}
-use Rattle.std.proofs.lemmas.Bool.{cond_both, ltb-true, ltb-false}
+use Rattle.std.proofs.lemmas.Bool.{cond_both, ltb-true}
 use Rattle.shelf.specs.Places.{places_of}
 use Rattle.book.specs.Closing.{last_day}
 use Rattle.book.specs.Memory.{Standing}

@@ -1,5 +1,5 @@
 -- Why a history refuses a price, as why the book does.
-use Rattle.std.proofs.Common.{◌≡◌, ℕ, Bool, true, false, cond, eqb, [], ◌∷◌, is_some, Some, None, Ok, Err, Option, Result, sym, refl, ap, ◌∙◌}
+use Rattle.std.proofs.Common.{◌≡◌, ℕ, Bool, true, false, cond, eqb, [], ◌∷◌, is_some, Some, None, Ok, Err, Option, refl}
 use Rattle.measures.specs.declared.price.Price.{Price}
 use Rattle.ordered_list.proofs.Told.{told}
 use Rattle.price_history.specs.Keys.{span}

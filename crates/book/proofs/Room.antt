@@ -1,5 +1,5 @@
 -- A sheet is put where the history has room for its prices.
-use Rattle.std.proofs.Common.{◌≡◌, Bool, true, false, cond, List, is_ok, Ok, Err, Result, sym, refl, ap, ◌∙◌, subst}
+use Rattle.std.proofs.Common.{◌≡◌, Bool, true, false, cond, List, is_ok, Ok, Err, sym, refl, ap, ◌∙◌}
 use Rattle.std.proofs.lemmas.Bool.{cond-true, cond-false}
 use Rattle.price_history.specs.Views.{View}
 use Rattle.pricing.specs.Changes.{Change}

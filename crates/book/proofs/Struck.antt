@@ -1,11 +1,11 @@
 -- Where prices are struck and none is entered, no room is wanted.
-use Rattle.std.proofs.Common.{◌≡◌, ℕ, zero, suc, ◌+◌, ◌≤◌, Bool, true, false, cond, ◌&&◌, eqb, ◌⊎◌, List, [], ◌∷◌, None, Option, sym, refl, ap, ◌∙◌, inl, inr, ⊎_elim, arith}
+use Rattle.std.proofs.Common.{◌≡◌, ℕ, zero, suc, ◌≤◌, false, ◌&&◌, eqb, ◌⊎◌, List, [], ◌∷◌, None, Option, refl, ap, inl, inr, ⊎_elim, arith}
 use Rattle.std.specs.List.{AllByRecursion as All}
 use Rattle.std.proofs.lemmas.Bool.{cond_both, le-ltb}
 use Rattle.measures.specs.declared.price.Price.{Price}
 use Rattle.price_history.specs.Keys.{span}
 use Rattle.price_history.specs.Views.{View, tallied}
-use Rattle.price_history.proofs.Tallies.{one, one_le}
+use Rattle.price_history.proofs.Tallies.{one}
 use Rattle.sheet.specs.Figures.{Figures}
 use Rattle.pricing.specs.Changes.{Change, changes_at}
 use Rattle.price_changes.specs.Changed.{touched, changed, changed_view, overfull}

@@ -1,6 +1,5 @@
 -- What checks in their order come to.
-use Rattle.std.proofs.Common.{◌≡◌, ℕ, Bool, true, false, cond, List, [], ◌∷◌, ◌++◌, Ok, Err, Result, sym, refl, ap, ◌∙◌, arith}
-use Rattle.std.proofs.lemmas.Bool.{cond-true, cond-false}
+use Rattle.std.proofs.Common.{◌≡◌, ℕ, Bool, true, false, cond, List, [], ◌∷◌, ◌++◌, Ok, Err, Result, sym, refl, ap, arith}
 use Rattle.book.specs.Checks.{Check, verdict}
 use Rattle.book.specs.declared.refusal.BookRefusal.{BookRefusal}
 

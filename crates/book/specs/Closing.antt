@@ -1,5 +1,5 @@
 -- Closing a decade.
-use Rattle.std.specs.Prelude.{ℕ, ◌+◌, ◌*◌, Bool, cond, not, ◌&&◌, List, [], ◌∷◌, length, is_some, is_ok, Option, Result, ◌==◌, nat_le, nat_lt}
+use Rattle.std.specs.Prelude.{ℕ, ◌+◌, ◌*◌, Bool, cond, not, ◌&&◌, List, [], ◌∷◌, length, is_some, is_ok, Result, ◌==◌, nat_le, nat_lt}
 use Rattle.std.specs.List.{between, list_all}
 use Rattle.shelf.specs.Places.{places_of}
 use Rattle.shelf.specs.Rows.{sheet_on}

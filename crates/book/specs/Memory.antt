@@ -1,5 +1,5 @@
 -- All that a call may see or write, and what a change of one sheet makes of it.
-use Rattle.std.specs.Prelude.{ℕ, Bool, false, ◌&&◌, List, length, is_some, Some, None, Option, nat_le, nat_lt, slice_index_or, slice_set}
+use Rattle.std.specs.Prelude.{ℕ, Bool, false, ◌&&◌, List, is_some, Some, None, Option, nat_le, nat_lt, slice_index_or, slice_set}
 use Rattle.std.specs.Option.{option_map}
 use Rattle.std.specs.List.{list_all}
 use Rattle.measures.specs.Calendar.{decade_of}

@@ -1,5 +1,5 @@
 -- Opening a book.
-use Rattle.std.specs.Prelude.{ℕ, cond, not, ◌&&◌, List, [], ◌∷◌, ◌++◌, drop, replicate, None, Ok, Err, Option, Result, ◌==◌}
+use Rattle.std.specs.Prelude.{ℕ, not, ◌&&◌, List, [], ◌∷◌, ◌++◌, drop, replicate, None, Ok, Err, Result, ◌==◌}
 use Rattle.measures.specs.Calendar.{between}
 use Rattle.price_history.specs.Keys.{span}
 use Rattle.price_history.specs.Views.{View, tallied}

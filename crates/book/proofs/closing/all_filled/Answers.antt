@@ -1,6 +1,5 @@
 -- All rows have a sheet where each at hand has one.
-use Rattle.std.proofs.Common.{◌≡◌, ◌+◌, Bool, ◌&&◌, drop, is_some, Option, sym, ap, ◌∙◌}
-use Rattle.std.specs.Option.{option_map}
+use Rattle.std.proofs.Common.{◌+◌, Bool, ◌&&◌, drop, is_some, Option, sym, ap, ◌∙◌}
 use Rattle.std.specs.List.{list_all}
 use Rattle.std.proofs.lemmas.List.{at_drop_more, at_drop_all}
 use Rattle.sheet.specs.Figures.{figures_of}
@@ -12,13 +11,13 @@ use Rattle.book.proofs.closing.all_filled.Goals as goal
 abbrev filled : Option Sheet → Bool
 filled row = is_some (sheet_on row)
 
-pub returns-then-is-none : goal.returns-then-is-none
-returns-then-is-none c =
+pub returns-then-is_none : goal.returns-then-is_none
+returns-then-is_none c =
     let rows = c.args.rows.now in
     let at = c.loop-row.row-index in
     let item = c.row-item.result in
     ap (λ b. b && list_all filled (drop (at + 1) rows))
-    (sym c.if-is-none.ensures ∙ sym (some_mapped (λ s. figures_of s.now) c.sheet-on.result) ∙ ap is_some c.sheet-on.ensures ∙ ap filled c.row-item.is)
+    (sym c.if-is_none.ensures ∙ sym (some_mapped (λ s. figures_of s.now) c.sheet_on.result) ∙ ap is_some c.sheet_on.ensures ∙ ap filled c.row-item.is)
     ∙ sym (at_drop_more (list_all filled) rows at item c.loop-row-test.true)
     ∙ c.loop-row.invariant
 
@@ -28,7 +27,7 @@ loop-row-preserved c =
     let at = c.loop-row.row-index in
     let item = c.row-item.result in
     ap (λ b. b && list_all filled (drop (at + 1) rows))
-    (sym c.if-is-none.ensures ∙ sym (some_mapped (λ s. figures_of s.now) c.sheet-on.result) ∙ ap is_some c.sheet-on.ensures ∙ ap filled c.row-item.is)
+    (sym c.if-is_none.ensures ∙ sym (some_mapped (λ s. figures_of s.now) c.sheet_on.result) ∙ ap is_some c.sheet_on.ensures ∙ ap filled c.row-item.is)
     ∙ sym (at_drop_more (list_all filled) rows at item c.loop-row-test.true)
     ∙ c.loop-row.invariant
 

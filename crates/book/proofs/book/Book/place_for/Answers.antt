@@ -1,7 +1,6 @@
 -- What refuses the place refuses the report.
-use Rattle.std.proofs.Common.{◌≡◌, not, [], ◌∷◌, Err, sym, ap, ◌∙◌}
+use Rattle.std.proofs.Common.{not, [], ◌∷◌, Err, sym, ap, ◌∙◌}
 use Rattle.std.proofs.lemmas.Result.{err_from_is_err_and}
-use Rattle.sheet.specs.Figures.{figures_of}
 use Rattle.sheet_text.specs.Reported.{plain}
 use Rattle.register.specs.Rolls.{roll}
 use Rattle.book.specs.Found.{found_in, spot_checks}
@@ -10,15 +9,15 @@ use Rattle.book.specs.declared.refusal.BookRefusal.TheVariants.{UnitUnknown, Dec
 use Rattle.book.proofs.Verdicts.{refused_front}
 use Rattle.book.proofs.book.Book.place_for.Goals as goal
 
-pub returns-in-err-spot : goal.returns-in-err-spot
-returns-in-err-spot c =
+pub returns-in_err-spot : goal.returns-in_err-spot
+returns-in_err-spot c =
     let b = standing c.args.self.now in
     let r = plain c.args.report.now in
     let p = place_of r in
     let known = units_known (roll c.args.register.now) r.figures in
-    let e = err_from_is_err_and c.from-residual.result c.from-residual.ensures.1 in
+    let e = err_from_is_err_and c.from_residual.result c.from_residual.ensures.1 in
     record {
       answer = ap found_in e.1 ∙ ap (λ x. Err x) e.2
-          ∙ sym (refused_front (spot_checks b c.args.long p) ((not known, UnitUnknown) ∷ (is_closed b p.day, DecadeClosed) ∷ []) (p, number_in b p) (p, number_in b p) _ (sym c.in-err-spot.ensures.answer));
+          ∙ sym (refused_front (spot_checks b c.args.long p) ((not known, UnitUnknown) ∷ (is_closed b p.day, DecadeClosed) ∷ []) (p, number_in b p) (p, number_in b p) _ (sym c.in_err-spot.ensures.answer));
       within = rw e.1 tt;
     }

@@ -10,6 +10,6 @@ pub returns : goal.returns
 returns g c =
     let m = memory c.args.self.now (g.K.PriceHistory.view c.args.history.now) (roll c.args.register.now) c.args.shelf.now in
     record {
-      answer = c.put-report.ensures.answer ∙ ap (put_answer Replacing m) c.in-ok-report.ensures;
-      after = c.put-report.ensures.after ∙ ap (put_after Replacing m) c.in-ok-report.ensures;
+      answer = c.put_report.ensures.answer ∙ ap (put_answer Replacing m) c.in_ok-report.ensures;
+      after = c.put_report.ensures.after ∙ ap (put_after Replacing m) c.in_ok-report.ensures;
     }

@@ -17,40 +17,40 @@ use Rattle.book.proofs.Verdicts.{passed_is}
 use Rattle.book.proofs.Withdrawn.{refused_after, front_refused, closed_refused, absent_refused, granted}
 use Rattle.book.proofs.book.Book.withdraw.Goals as goal
 
-pub returns-in-err-spot : goal.returns-in-err-spot
-returns-in-err-spot g c =
+pub returns-in_err-spot : goal.returns-in_err-spot
+returns-in_err-spot g c =
     let m : Roll → Memory = λ roll. memory c.args.self.now (g.K.PriceHistory.view c.args.history.now) roll c.args.shelf.now in
     let p = c.args.place in
-    let e = err_from_is_err_and c.from-residual.result c.from-residual.ensures.1 in
-    let no = λ (roll : Roll). front_refused (m roll) p _ _ (sym c.in-err-spot.ensures.answer) in
+    let e = err_from_is_err_and c.from_residual.result c.from_residual.ensures.1 in
+    let no = λ (roll : Roll). front_refused (m roll) p _ _ (sym c.in_err-spot.ensures.answer) in
     record { answer = λ roll. e.1 ∙ ap (λ x. Err x) e.2 ∙ sym (no roll); after = λ roll. refused_after (m roll) p _ (no roll) }
 
-pub returns-then-is-closed : goal.returns-then-is-closed
-returns-then-is-closed g c =
+pub returns-then-is_closed : goal.returns-then-is_closed
+returns-then-is_closed g c =
     let m : Roll → Memory = λ roll. memory c.args.self.now (g.K.PriceHistory.view c.args.history.now) roll c.args.shelf.now in
     let p = c.args.place in
     let b = standing c.args.self.now in
     let rows = c.args.shelf.now in
     let n = number_in b p in
-    let spot = c.in-ok-spot.spot in
-    let passed = sym c.in-ok-spot.ensures.answer in
-    let no = λ (roll : Roll). closed_refused (m roll) p (p, n) (found spot) passed (sym c.if-is-closed.ensures) in
+    let spot = c.in_ok-spot.spot in
+    let passed = sym c.in_ok-spot.ensures.answer in
+    let no = λ (roll : Roll). closed_refused (m roll) p (p, n) (found spot) passed (sym c.if-is_closed.ensures) in
     record { answer = λ roll. sym (no roll); after = λ roll. refused_after (m roll) p _ (no roll) }
 
-pub returns-then-is-none : goal.returns-then-is-none
-returns-then-is-none g c =
+pub returns-then-is_none : goal.returns-then-is_none
+returns-then-is_none g c =
     let m : Roll → Memory = λ roll. memory c.args.self.now (g.K.PriceHistory.view c.args.history.now) roll c.args.shelf.now in
     let p = c.args.place in
     let b = standing c.args.self.now in
     let rows = c.args.shelf.now in
     let n = number_in b p in
-    let spot = c.in-ok-spot.spot in
-    let passed = sym c.in-ok-spot.ensures.answer in
+    let spot = c.in_ok-spot.spot in
+    let passed = sym c.in_ok-spot.ensures.answer in
     let is : found spot ≡ (p, n) = sym (passed_is (spot_checks b (length rows) p) (p, n) (found spot) passed) in
-    let old : option_map (λ s. figures_of s.now) c.sheet-on.result ≡ sheet_on (get_or rows spot.number None) = search (rules, get_or_read) in
-    let in_force : is_some (sheet_at b rows p) ≡ is_some c.sheet-on.result = sym (sym (some_mapped (λ s. figures_of s.now) c.sheet-on.result) ∙ ap is_some (old ∙ sheet_found b rows p (found spot) is)) in
-    let still_Open = sym c.if-is-closed.ensures in
-    let no = λ (roll : Roll). absent_refused (m roll) p (p, n) (found spot) passed still_Open (in_force ∙ c.if-is-none.ensures) in
+    let old : option_map (λ s. figures_of s.now) c.sheet_on.result ≡ sheet_on (get_or rows spot.number None) = search (rules, get_or_read) in
+    let in_force : is_some (sheet_at b rows p) ≡ is_some c.sheet_on.result = sym (sym (some_mapped (λ s. figures_of s.now) c.sheet_on.result) ∙ ap is_some (old ∙ sheet_found b rows p (found spot) is)) in
+    let still_Open = sym c.if-is_closed.ensures in
+    let no = λ (roll : Roll). absent_refused (m roll) p (p, n) (found spot) passed still_Open (in_force ∙ c.if-is_none.ensures) in
     record { answer = λ roll. sym (no roll); after = λ roll. refused_after (m roll) p _ (no roll) }
 
 pub returns : goal.returns
@@ -60,19 +60,19 @@ returns g c =
     let b = standing c.args.self.now in
     let rows = c.args.shelf.now in
     let n = number_in b p in
-    let spot = c.in-ok-spot.spot in
-    let passed = sym c.in-ok-spot.ensures.answer in
+    let spot = c.in_ok-spot.spot in
+    let passed = sym c.in_ok-spot.ensures.answer in
     let is : found spot ≡ (p, n) = sym (passed_is (spot_checks b (length rows) p) (p, n) (found spot) passed) in
-    let old : option_map (λ s. figures_of s.now) c.sheet-on.result ≡ sheet_on (get_or rows spot.number None) = search (rules, get_or_read) in
-    let in_force : is_some (sheet_at b rows p) ≡ is_some c.sheet-on.result = sym (sym (some_mapped (λ s. figures_of s.now) c.sheet-on.result) ∙ ap is_some (old ∙ sheet_found b rows p (found spot) is)) in
-    let still_Open = sym c.if-is-closed.ensures in
+    let old : option_map (λ s. figures_of s.now) c.sheet_on.result ≡ sheet_on (get_or rows spot.number None) = search (rules, get_or_read) in
+    let in_force : is_some (sheet_at b rows p) ≡ is_some c.sheet_on.result = sym (sym (some_mapped (λ s. figures_of s.now) c.sheet_on.result) ∙ ap is_some (old ∙ sheet_found b rows p (found spot) is)) in
+    let still_Open = sym c.if-is_closed.ensures in
     let v = g.K.PriceHistory.view c.args.history.now in
     let place = spot.place in
     let room = room_to_strike v place.zone place.day place.period (sheet_on (get_or rows spot.number None)) (g.K.PriceHistory.within c.args.history.now) in
-    let done : c.put-sheet.result ≡ Ok (tt {0}) = c.put-sheet.ensures.answer ∙ cond-false (overfull (changed_view v (changes_of rows (found spot) None))) (Err HistoryFull) (Ok (tt {0})) room in
-    let yes = λ (roll : Roll). granted (m roll) p (p, n) (found spot) passed still_Open (in_force ∙ c.if-is-none.ensures) in
+    let done : c.put_sheet.result ≡ Ok (tt {0}) = c.put_sheet.ensures.answer ∙ cond-false (overfull (changed_view v (changes_of rows (found spot) None))) (Err HistoryFull) (Ok (tt {0})) room in
+    let yes = λ (roll : Roll). granted (m roll) p (p, n) (found spot) passed still_Open (in_force ∙ c.if-is_none.ensures) in
     record {
       answer = λ roll. done ∙ sym (yes roll);
-      after = λ roll. put_memory (m roll) p None (found spot) (is_ok c.put-sheet.result) _ _ is c.put-sheet.ensures.history c.put-sheet.ensures.rows
+      after = λ roll. put_memory (m roll) p None (found spot) (is_ok c.put_sheet.result) _ _ is c.put_sheet.ensures.history c.put_sheet.ensures.rows
           ∙ ap (λ r. cond (is_ok r) (with_sheet (m roll) p None) (m roll)) (done ∙ sym (yes roll));
     }

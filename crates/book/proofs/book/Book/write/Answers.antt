@@ -6,7 +6,6 @@ use Rattle.std.proofs.lemmas.Result.{err_from_is_err_and}
 use Rattle.std.proofs.lemmas.Bool.{cond-true, cond-false}
 use Rattle.sheet.specs.Figures.{figures_of}
 use Rattle.shelf.specs.Rows.{sheet_on}
-use Rattle.book.specs.Checks.{Check, verdict}
 use Rattle.book.specs.Found.{spot_checks}
 use Rattle.book.specs.Memory.{standing, found, number_in, sheet_at}
 use Rattle.book.specs.Writing.{text_at, write_answer}
@@ -15,33 +14,33 @@ use Rattle.book.proofs.Put.{some_mapped, sheet_found}
 use Rattle.book.proofs.Verdicts.{refused_front, passed_front, passed_is}
 use Rattle.book.proofs.book.Book.write.Goals as goal
 
-pub returns-in-err-spot : goal.returns-in-err-spot
-returns-in-err-spot c =
+pub returns-in_err-spot : goal.returns-in_err-spot
+returns-in_err-spot c =
     let b = standing c.args.self.now in
     let rows = c.args.shelf.now in
     let p = c.args.place in
     let out = c.args.out.now in
-    let e = err_from_is_err_and c.from-residual.result c.from-residual.ensures.1 in
+    let e = err_from_is_err_and c.from_residual.result c.from_residual.ensures.1 in
     let text = text_at b rows p in
-    let refused = refused_front (spot_checks b (length rows) p) ((not (is_some (sheet_at b rows p)), NoSheet) ∷ (ltb (length out) (length text), OutputShort) ∷ []) (p, number_in b p) (length text) _ (sym c.in-err-spot.ensures.answer) in
+    let refused = refused_front (spot_checks b (length rows) p) ((not (is_some (sheet_at b rows p)), NoSheet) ∷ (ltb (length out) (length text), OutputShort) ∷ []) (p, number_in b p) (length text) _ (sym c.in_err-spot.ensures.answer) in
     record {
       answer = e.1 ∙ ap (λ x. Err x) e.2 ∙ sym refused;
       output = sym (cond-false (is_ok (write_answer b rows p (length out))) (text ++ drop (length text) out) out (ap is_ok refused));
     }
 
-pub returns-in-default : goal.returns-in-default
-returns-in-default c =
+pub returns-in_default : goal.returns-in_default
+returns-in_default c =
     let b = standing c.args.self.now in
     let rows = c.args.shelf.now in
     let p = c.args.place in
     let out = c.args.out.now in
     let n = number_in b p in
-    let spot = c.in-ok-spot.spot in
+    let spot = c.in_ok-spot.spot in
     let front = spot_checks b (length rows) p in
-    let passed = sym c.in-ok-spot.ensures.answer in
+    let passed = sym c.in_ok-spot.ensures.answer in
     let is : found spot ≡ (p, n) = sym (passed_is front (p, n) (found spot) passed) in
-    let old : option_map (λ s. figures_of s.now) c.sheet-on.result ≡ sheet_on (get_or rows spot.number None) = search (rules, get_or_read) in
-    let none : not (is_some (sheet_at b rows p)) ≡ true = ap (λ t. not t) (sym (sym (some_mapped (λ s. figures_of s.now) c.sheet-on.result) ∙ ap is_some (old ∙ sheet_found b rows p (found spot) is)) ∙ ap is_some c.in-default.is) in
+    let old : option_map (λ s. figures_of s.now) c.sheet_on.result ≡ sheet_on (get_or rows spot.number None) = search (rules, get_or_read) in
+    let none : not (is_some (sheet_at b rows p)) ≡ true = ap (λ t. not t) (sym (sym (some_mapped (λ s. figures_of s.now) c.sheet_on.result) ∙ ap is_some (old ∙ sheet_found b rows p (found spot) is)) ∙ ap is_some c.in_default.is) in
     let text = text_at b rows p in
     let refused = passed_front front ((not (is_some (sheet_at b rows p)), NoSheet) ∷ (ltb (length out) (length text), OutputShort) ∷ []) (p, n) (length text) (found spot) passed ∙ cond-true (not (is_some (sheet_at b rows p))) _ _ none in
     record {
