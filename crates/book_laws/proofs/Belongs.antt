@@ -1,9 +1,8 @@
 -- The rank of a price of a place is that of a key, from which the place can be told.
-use Rattle.std.proofs.Common.{◌≡◌, ℕ, ◌+◌, ◌-◌, ◌*◌, ◌≤◌, sym, refl, ap, ◌∙◌, arith}
-use Rattle.price_history.specs.Keys.{rank_of, rank_on}
+use Rattle.std.proofs.Common.{◌≡◌, ℕ, ◌≤◌, ap, arith}
+use Rattle.price_history.specs.Keys.{rank_of}
 use Rattle.price_history.specs.Slots.{slots_of}
 use Rattle.price_history.specs.declared.key.PriceKey.{PriceKey}
-use Rattle.price_history.specs.declared.series.Series.{Series}
 use Rattle.price_history.proofs.Apart.{rank_apart}
 use Rattle.offers.specs.declared.span.Span.{Span}
 use Rattle.offers.specs.declared.span.Span.TheVariants.{Quarter, Period}

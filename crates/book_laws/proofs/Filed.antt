@@ -1,5 +1,5 @@
 -- Filing enters what forms on the sheet.
-use Rattle.std.proofs.Common.{◌≡◌, ℕ, Bool, true, false, cond, ◌||◌, List, is_some, is_ok, Some, None, Ok, Option, sym, refl, ap, ◌∙◌}
+use Rattle.std.proofs.Common.{◌≡◌, false, is_some, is_ok, Some, None, Ok, Option, sym, refl, ap, ◌∙◌}
 use Rattle.std.proofs.lemmas.Bool.{false≢true, cond-true, or_from, or_right}
 use Rattle.sheet.specs.Figures.{Figures}
 use Rattle.sheet_laws.specs.Laws.{WithinLimits}
@@ -13,7 +13,7 @@ use Rattle.book.specs.declared.putting.Putting.{Putting}
 use Rattle.book.specs.declared.putting.Putting.TheVariants.{Filing}
 use Rattle.book_laws.specs.Kept.{IsPlace, rank_of_place}
 use Rattle.book_laws.specs.Laws.{FilingEntersWhatForms}
-use Rattle.book_laws.proofs.Each.{at, all, for_each, shown_at}
+use Rattle.book_laws.proofs.Each.{all, for_each, shown_at}
 use Rattle.book_laws.proofs.Overlaid.{changed_off}
 use Rattle.book_laws.proofs.Passed.{all_passed}
 

@@ -1,10 +1,10 @@
 -- What a change of a sheet shows.
-use Rattle.std.proofs.Common.{◌≡◌, ℕ, Bool, true, false, cond, ◌&&◌, ◌||◌, eqb, List, [], ◌∷◌, Some, None, Option, sym, refl, ap, ◌∙◌, subst, ⊎_elim}
+use Rattle.std.proofs.Common.{◌≡◌, ℕ, Bool, true, false, ◌&&◌, eqb, List, [], ◌∷◌, None, Option, sym, refl, ap, ◌∙◌, ⊎_elim}
 use Rattle.std.specs.List.{AllByRecursion as All}
-use Rattle.std.proofs.lemmas.Bool.{false≢true, cases_Bool, cond_both, cond-true, cond-false, eqb-true, and_from, and_left, and_right, eq-eqb}
+use Rattle.std.proofs.lemmas.Bool.{false≢true, cases_Bool, cond_both, cond-true, cond-false, eqb-true}
 use Rattle.measures.specs.declared.price.Price.{Price}
 use Rattle.pricing.specs.Changes.{Change}
-use Rattle.price_changes.specs.Changed.{touched, overlaid, changed}
+use Rattle.price_changes.specs.Changed.{touched, changed}
 use Rattle.price_changes.proofs.Overlay.{overlaid_like}
 
 abbrev pub Shown : Type 0

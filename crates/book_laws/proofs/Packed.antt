@@ -1,5 +1,5 @@
 -- A sheet that was read and put on the shelf is in force.
-use Rattle.std.proofs.Common.{◌≡◌, ℕ, ◌≤◌, Bool, true, ◌&&◌, leb, List, [], ◌∷◌, ◌++◌, length, take, replicate, Some, Ok, sym, refl, ap, ◌∙◌, arith}
+use Rattle.std.proofs.Common.{◌≡◌, ℕ, ◌≤◌, Bool, true, leb, List, [], ◌∷◌, ◌++◌, length, replicate, Some, refl, ap, ◌∙◌}
 use lib.Seq.{take-append_seam}
 use Rattle.std.specs.List.{list_all, AllByRecursion as All}
 use Rattle.std.proofs.lemmas.List.{take-take}
@@ -7,7 +7,6 @@ use Rattle.std.proofs.lemmas.Bool.{cond-true, and_from, le-leb}
 use Rattle.measures.specs.Calendar.{between}
 use Rattle.sheet.specs.Figures.{Figures, figures_of}
 use Rattle.sheet.specs.Listed.{listed}
-use Rattle.sheet.specs.declared.entries.Entries.{Entries}
 use Rattle.sheet.specs.declared.lines.Offer.{Offer}
 use Rattle.sheet.specs.declared.lines.UnitLine.{UnitLine}
 use Rattle.sheet.specs.declared.lines.GroupLine.{GroupLine}

@@ -1,5 +1,5 @@
 -- Withdrawing undoes filing, and replacing a sheet by itself does nothing.
-use Rattle.std.proofs.Common.{◌≡◌, ℕ, ◌<◌, Bool, true, false, cond, not, ◌||◌, ltb, List, [], ◌∷◌, length, get_or, set, is_some, is_ok, Some, None, Ok, Option, sym, refl, ap, ◌∙◌, subst, arith, length-set, get_or-set_same, set-set}
+use Rattle.std.proofs.Common.{◌≡◌, ℕ, ◌<◌, Bool, true, false, not, ◌||◌, length, get_or, set, is_some, is_ok, Some, None, Ok, Option, sym, refl, ap, ◌∙◌, arith, length-set, get_or-set_same, set-set}
 use lib.Seq.{set-get_or}
 use Rattle.std.specs.Option.{option_map}
 use Rattle.std.proofs.lemmas.Bool.{cond-true, cond-false, ltb-false, not-false}
@@ -16,15 +16,15 @@ use Rattle.shelf.specs.Packed.{packed_sheet}
 use Rattle.shelf.specs.Places.{places_of}
 use Rattle.shelf.specs.Rows.{sheet_on}
 use Rattle.shelf.proofs.Numbered.{number_below}
-use Rattle.pricing.specs.Changes.{Change, formed_by}
+use Rattle.pricing.specs.Changes.{formed_by}
 use Rattle.pricing.specs.Keys.{Within}
 use Rattle.price_changes.specs.Changed.{touched, changed, changed_view}
-use Rattle.book.specs.Filing.{put_checks, put_verdict, put_report, withdraw_answer, withdraw_after}
-use Rattle.book.specs.Memory.{Rows, Standing, Memory, place_of, number_in, in_book, is_closed, is_short, sheet_at, with_sheet}
+use Rattle.book.specs.Filing.{put_checks, put_verdict, withdraw_answer, withdraw_after}
+use Rattle.book.specs.Memory.{Rows, Memory, place_of, number_in, in_book, is_closed, is_short, sheet_at, with_sheet}
 use Rattle.book.specs.declared.putting.Putting.{Putting}
 use Rattle.book.specs.declared.putting.Putting.TheVariants.{Filing, Replacing}
 use Rattle.book.specs.declared.stated.StatedPlace.{StatedPlace}
-use Rattle.book_laws.specs.Kept.{rank_of_place, KeptAt}
+use Rattle.book_laws.specs.Kept.{rank_of_place}
 use Rattle.book_laws.specs.Laws.{WithdrawingGivesBack, ReplacingByItselfAltersNothing}
 use Rattle.book_laws.proofs.Each.{at, all, for_each}
 use Rattle.book_laws.proofs.Filed.{put_granted, no_sheet}

@@ -1,5 +1,5 @@
 -- Places and keys.
-use Rattle.std.specs.Prelude.{◌≡◌, ℕ, ◌≤◌, List, None, slice_index_or}
+use Rattle.std.specs.Prelude.{◌≡◌, ℕ, ◌≤◌, None, slice_index_or}
 use Rattle.std.specs.Option.{option_map}
 use Rattle.offers.specs.declared.span.Span.{Span}
 use Rattle.sheet.specs.declared.lines.Direction.{Direction}
