@@ -6,3 +6,4 @@ pub mod Amounts
 pub mod Calendar
 pub mod Statements
 pub mod Sized
+pub mod Owed

@@ -7,3 +7,4 @@ pub mod Listing
 pub mod Standing
 pub mod Steps
 pub mod Onward
+pub mod Usual

@@ -1,6 +1,6 @@
 // Offers, units and groups, line by line.
 ghost use Rattle.sheet_text.specs.Lines.{four, eight, offer_line, unit_line, group_line};
-ghost use Rattle.std.proofs.Common.{rules};
+ghost use Rattle.sheet_text.specs.Usual.{four_usual, eight_usual};
 
 use crate::entry::Entry;
 use crate::faults::{FaultKind, LineFault};
@@ -25,7 +25,7 @@ impl Entry for Offer {
 
     ghost order = { λ _. 0 };
 
-    ghost counts = { Prim.search rules };
+    ghost counts = { λ _. eight_usual offer_line };
 
     fn filler() -> Offer {
         Offer {
@@ -72,7 +72,7 @@ impl Entry for UnitLine {
 
     ghost order = { λ x. x.unit };
 
-    ghost counts = { Prim.search rules };
+    ghost counts = { λ before. four_usual (unit_line before) };
 
     fn filler() -> UnitLine {
         UnitLine {
@@ -111,7 +111,7 @@ impl Entry for GroupLine {
 
     ghost order = { λ x. x.party };
 
-    ghost counts = { Prim.search rules };
+    ghost counts = { λ before. four_usual (group_line before) };
 
     fn filler() -> GroupLine {
         GroupLine {
