@@ -1,5 +1,5 @@
 -- The lines of a priced period.
-use Rattle.std.specs.Prelude.{ℕ, List, [], ◌∷◌, ◌++◌, ℤ, codes, decimal}
+use Rattle.std.specs.Prelude.{ℕ, List, ◌++◌, ℤ, codes, decimal}
 use Rattle.std.specs.Fmt.{signed_decimal}
 use Rattle.offers.specs.declared.span.State.{State}
 use Rattle.offers.specs.declared.span.State.TheVariants.{Deficit, Surplus, Balanced}

@@ -1,5 +1,5 @@
 -- The text of a priced period.
-use Rattle.std.specs.Prelude.{ℕ, List, [], ◌∷◌, ◌++◌, length, ℤ, codes}
+use Rattle.std.specs.Prelude.{ℕ, List, ◌++◌, length, ℤ, codes}
 use Rattle.std.specs.List.{flat_map}
 use Rattle.sheet.specs.Figures.{Figures}
 use Rattle.sheet.specs.declared.lines.UnitLine.{UnitLine}

@@ -1,5 +1,5 @@
 -- The line that is printed of a text that is no sheet.
-use Rattle.std.specs.Prelude.{ℕ, cond, List, ◌++◌, codes, decimal}
+use Rattle.std.specs.Prelude.{ℕ, List, ◌++◌, codes, decimal}
 use Rattle.sheet_text.specs.Faults.{number_of, word_of}
 use Rattle.sheet_text.specs.declared.faults.SheetFault.{SheetFault}
 

@@ -1,4 +1,4 @@
-use Rattle.std.proofs.Common.{◌≡◌, ℕ, ◌+◌, true, false, leb, ◌++◌, length, ℤ, is_ok, sym, refl, ap, ◌∙◌, append-nil, rules}
+use Rattle.std.proofs.Common.{◌≡◌, ◌+◌, false, leb, ◌++◌, length, is_ok, sym, refl, ap, ◌∙◌, append-nil, rules}
 use Rattle.pricing.specs.Figures.{settled_of}
 use Rattle.text_buffer.specs.Texts.{written}
 use Rattle.text_buffer.proofs.Chained.{each_more, each_refused, each_put}
@@ -13,20 +13,20 @@ pub loop-line-preserved : goal.loop-line-preserved
 loop-line-preserved g c =
     let text = λ (x : g.row.L.Denot). charge_line (g.L.Charged.number x) (g.L.Charged.charge (settled_of c.args.prices) x) in
     let x = c.line-item.result in
-    let same : charge_line c.number-of.result c.charge-at.result.mkop ≡ text x = λ i. charge_line (c.number-of.ensures i) (c.charge-at.ensures i) in
+    let same : charge_line c.number_of.result c.charge_at.result.mkop ≡ text x = λ i. charge_line (c.number_of.ensures i) (c.charge_at.ensures i) in
     each_more text c.args.lines.now (written c.args.page.now) c.loop-line.line-index (written c.loop-line.page) c.loop-line.invariant x x
-    (written c.put-charge.new.page) c.loop-line-test.true c.line-item.is
-    (c.in-ok-put-charge.ensures.after refl ∙ ap (λ t. written c.loop-line.page ++ t) same)
+    (written c.put_charge.new.page) c.loop-line-test.true c.line-item.is
+    (c.in_ok-put_charge.ensures.after refl ∙ ap (λ t. written c.loop-line.page ++ t) same)
 
-pub returns-in-err-put-charge : goal.returns-in-err-put-charge
-returns-in-err-put-charge g c =
+pub returns-in_err-put_charge : goal.returns-in_err-put_charge
+returns-in_err-put_charge g c =
     let text = λ (x : g.row.L.Denot). charge_line (g.L.Charged.number x) (g.L.Charged.charge (settled_of c.args.prices) x) in
     let x = c.line-item.result in
-    let same : charge_line c.number-of.result c.charge-at.result.mkop ≡ text x = λ i. charge_line (c.number-of.ensures i) (c.charge-at.ensures i) in
-    let refused : is_ok c.from-residual.result ≡ false = search rules in
+    let same : charge_line c.number_of.result c.charge_at.result.mkop ≡ text x = λ i. charge_line (c.number_of.ensures i) (c.charge_at.ensures i) in
+    let refused : is_ok c.from_residual.result ≡ false = search rules in
     each_refused text c.args.lines.now (written c.args.page.now) c.loop-line.line-index (written c.loop-line.page) c.loop-line.invariant 935 x x
-    (written c.put-charge.new.page) c.from-residual.result c.loop-line-test.true c.line-item.is refused
-    (c.in-err-put-charge.ensures.fits ∙ ap (λ t. leb (length (written c.loop-line.page) + length t) 935) same)
+    (written c.put_charge.new.page) c.from_residual.result c.loop-line-test.true c.line-item.is refused
+    (c.in_err-put_charge.ensures.fits ∙ ap (λ t. leb (length (written c.loop-line.page) + length t) 935) same)
 
 pub returns : goal.returns
 returns g c =

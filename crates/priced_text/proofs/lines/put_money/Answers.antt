@@ -2,11 +2,11 @@ use Rattle.std.proofs.Common.{rules}
 use Rattle.text_buffer.proofs.Chained.{chained}
 use Rattle.priced_text.proofs.lines.put_money.Goals as goal
 
-pub returns-in-err-put : goal.returns-in-err-put
-returns-in-err-put c = search (rules, chained)
+pub returns-in_err-put : goal.returns-in_err-put
+returns-in_err-put c = search (rules, chained)
 
-pub returns-in-err-put-signed : goal.returns-in-err-put-signed
-returns-in-err-put-signed c = search (rules, chained)
+pub returns-in_err-put_signed : goal.returns-in_err-put_signed
+returns-in_err-put_signed c = search (rules, chained)
 
 pub returns : goal.returns
 returns c = search (rules, chained)

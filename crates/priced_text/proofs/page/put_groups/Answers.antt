@@ -11,7 +11,7 @@ use Rattle.priced_text.proofs.page.put_groups.Goals as goal
 pub returns : goal.returns
 returns c =
     let p = settled_of c.args.prices in
-    let sum = c.groups-account-sum.ensures ∙ ap (groups_account p) c.zone-totals.ensures in
-    let same : charges_text (codes "GROUPS ") (λ (l : GroupLine). l.party) (group_charge p) c.as-slice.result.now (codes "A-B ") c.groups-account-sum.result.mkop ≡ groups_text p (figures_of c.args.sheet.now) =
-    λ i. charges_text (codes "GROUPS ") (λ (l : GroupLine). l.party) (group_charge p) (c.as-slice.ensures.value i) (codes "A-B ") (sum i) in
-    put_as 935 same c.put-charged.ensures
+    let sum = c.groups_account-sum.ensures ∙ ap (groups_account p) c.zone_totals.ensures in
+    let same : charges_text (codes "GROUPS ") (λ (l : GroupLine). l.party) (group_charge p) c.as_slice.result.now (codes "A-B ") c.groups_account-sum.result.mkop ≡ groups_text p (figures_of c.args.sheet.now) =
+    λ i. charges_text (codes "GROUPS ") (λ (l : GroupLine). l.party) (group_charge p) (c.as_slice.ensures.value i) (codes "A-B ") (sum i) in
+    put_as 935 same c.put_charged.ensures

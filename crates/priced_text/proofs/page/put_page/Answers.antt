@@ -17,42 +17,42 @@ after_prices p s = units_text p s ++ after_units p s
 abbrev after_state : Settled → Figures → List ℕ
 after_state p s = prices_text p ++ after_prices p s
 
-pub returns-in-err-put-state : goal.returns-in-err-put-state
-returns-in-err-put-state c =
+pub returns-in_err-put_state : goal.returns-in_err-put_state
+returns-in_err-put_state c =
     let p = settled_of c.args.prices in
     let s = figures_of c.args.sheet.now in
-    first_refused 935 (state_line c.args.state) (after_state p s) refl (search rules) c.in-err-put-state.ensures
+    first_refused 935 (state_line c.args.state) (after_state p s) refl (search rules) c.in_err-put_state.ensures
 
-pub returns-in-err-put-prices : goal.returns-in-err-put-prices
-returns-in-err-put-prices c =
+pub returns-in_err-put_prices : goal.returns-in_err-put_prices
+returns-in_err-put_prices c =
     let p = settled_of c.args.prices in
     let s = figures_of c.args.sheet.now in
-    both_put 935 (state_line c.args.state) (after_state p s) refl c.in-ok-put-state.ensures
-    (first_refused 935 (prices_text p) (after_prices p s) refl (search rules) c.in-err-put-prices.ensures)
+    both_put 935 (state_line c.args.state) (after_state p s) refl c.in_ok-put_state.ensures
+    (first_refused 935 (prices_text p) (after_prices p s) refl (search rules) c.in_err-put_prices.ensures)
 
-pub returns-in-err-put-units : goal.returns-in-err-put-units
-returns-in-err-put-units c =
+pub returns-in_err-put_units : goal.returns-in_err-put_units
+returns-in_err-put_units c =
     let p = settled_of c.args.prices in
     let s = figures_of c.args.sheet.now in
-    both_put 935 (state_line c.args.state) (after_state p s) refl c.in-ok-put-state.ensures
-    (both_put 935 (prices_text p) (after_prices p s) refl c.in-ok-put-prices.ensures
-    (first_refused 935 (units_text p s) (after_units p s) refl (search rules) c.in-err-put-units.ensures))
+    both_put 935 (state_line c.args.state) (after_state p s) refl c.in_ok-put_state.ensures
+    (both_put 935 (prices_text p) (after_prices p s) refl c.in_ok-put_prices.ensures
+    (first_refused 935 (units_text p s) (after_units p s) refl (search rules) c.in_err-put_units.ensures))
 
-pub returns-in-err-put-groups : goal.returns-in-err-put-groups
-returns-in-err-put-groups c =
+pub returns-in_err-put_groups : goal.returns-in_err-put_groups
+returns-in_err-put_groups c =
     let p = settled_of c.args.prices in
     let s = figures_of c.args.sheet.now in
-    both_put 935 (state_line c.args.state) (after_state p s) refl c.in-ok-put-state.ensures
-    (both_put 935 (prices_text p) (after_prices p s) refl c.in-ok-put-prices.ensures
-    (both_put 935 (units_text p s) (after_units p s) refl c.in-ok-put-units.ensures
-    (first_refused 935 (groups_text p s) (codes "END\n") refl (search rules) c.in-err-put-groups.ensures)))
+    both_put 935 (state_line c.args.state) (after_state p s) refl c.in_ok-put_state.ensures
+    (both_put 935 (prices_text p) (after_prices p s) refl c.in_ok-put_prices.ensures
+    (both_put 935 (units_text p s) (after_units p s) refl c.in_ok-put_units.ensures
+    (first_refused 935 (groups_text p s) (codes "END\n") refl (search rules) c.in_err-put_groups.ensures)))
 
 pub returns : goal.returns
 returns c =
     let p = settled_of c.args.prices in
     let s = figures_of c.args.sheet.now in
-    both_put 935 (state_line c.args.state) (after_state p s) refl c.in-ok-put-state.ensures
-    (both_put 935 (prices_text p) (after_prices p s) refl c.in-ok-put-prices.ensures
-    (both_put 935 (units_text p s) (after_units p s) refl c.in-ok-put-units.ensures
-    (both_put 935 (groups_text p s) (codes "END\n") refl c.in-ok-put-groups.ensures
+    both_put 935 (state_line c.args.state) (after_state p s) refl c.in_ok-put_state.ensures
+    (both_put 935 (prices_text p) (after_prices p s) refl c.in_ok-put_prices.ensures
+    (both_put 935 (units_text p s) (after_units p s) refl c.in_ok-put_units.ensures
+    (both_put 935 (groups_text p s) (codes "END\n") refl c.in_ok-put_groups.ensures
     (put_whole 935 c.put.ensures.fits c.put.ensures.after))))

@@ -13,17 +13,17 @@ up p = price_line (codes "UP ") p.up.kop
 abbrev down : SettlementPrices → List ℕ
 down p = price_line (codes "DOWN ") p.down.kop
 
-pub returns-in-err-put-price : goal.returns-in-err-put-price
-returns-in-err-put-price c = let p = c.args.prices in first_refused 935 (imsp p) (up p ++ down p) refl (search rules) c.in-err-put-price.ensures
+pub returns-in_err-put_price : goal.returns-in_err-put_price
+returns-in_err-put_price c = let p = c.args.prices in first_refused 935 (imsp p) (up p ++ down p) refl (search rules) c.in_err-put_price.ensures
 
-pub returns-in-err-put-price-2 : goal.returns-in-err-put-price-2
-returns-in-err-put-price-2 c =
+pub returns-in_err-put_price-2 : goal.returns-in_err-put_price-2
+returns-in_err-put_price-2 c =
     let p = c.args.prices in
-    both_put 935 (imsp p) (up p ++ down p) refl c.in-ok-put-price.ensures
-    (first_refused 935 (up p) (down p) refl (search rules) c.in-err-put-price-2.ensures)
+    both_put 935 (imsp p) (up p ++ down p) refl c.in_ok-put_price.ensures
+    (first_refused 935 (up p) (down p) refl (search rules) c.in_err-put_price-2.ensures)
 
 pub returns : goal.returns
 returns c =
     let p = c.args.prices in
-    both_put 935 (imsp p) (up p ++ down p) refl c.in-ok-put-price.ensures
-    (both_put 935 (up p) (down p) refl c.in-ok-put-price-2.ensures c.put-price-3.ensures)
+    both_put 935 (imsp p) (up p ++ down p) refl c.in_ok-put_price.ensures
+    (both_put 935 (up p) (down p) refl c.in_ok-put_price-2.ensures c.put_price-3.ensures)

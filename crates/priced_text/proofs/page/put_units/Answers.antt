@@ -11,7 +11,7 @@ use Rattle.priced_text.proofs.page.put_units.Goals as goal
 pub returns : goal.returns
 returns c =
     let p = settled_of c.args.prices in
-    let sum = c.units-account-sum.ensures ∙ ap (units_account p) c.zone-totals.ensures in
-    let same : charges_text (codes "UNITS ") (λ (l : UnitLine). l.unit) (unit_charge p) c.as-slice.result.now (codes "A-A ") c.units-account-sum.result.mkop ≡ units_text p (figures_of c.args.sheet.now) =
-    λ i. charges_text (codes "UNITS ") (λ (l : UnitLine). l.unit) (unit_charge p) (c.as-slice.ensures.value i) (codes "A-A ") (sum i) in
-    put_as 935 same c.put-charged.ensures
+    let sum = c.units_account-sum.ensures ∙ ap (units_account p) c.zone_totals.ensures in
+    let same : charges_text (codes "UNITS ") (λ (l : UnitLine). l.unit) (unit_charge p) c.as_slice.result.now (codes "A-A ") c.units_account-sum.result.mkop ≡ units_text p (figures_of c.args.sheet.now) =
+    λ i. charges_text (codes "UNITS ") (λ (l : UnitLine). l.unit) (unit_charge p) (c.as_slice.ensures.value i) (codes "A-A ") (sum i) in
+    put_as 935 same c.put_charged.ensures
