@@ -1,6 +1,6 @@
 -- Figures worked out by hand.
 use Rattle.std.specs.Prelude.{◌≡◌, ℕ, ◌≤◌, false, List, [], ◌∷◌, ℤ, pos, negsuc, Some, unsigned_abs}
-use Rattle.std.proofs.Common.{arith}
+use Rattle.std.proofs.Common.{lit≤}
 use Rattle.measures.specs.declared.price.Price.{Price}
 use Rattle.measures.specs.declared.volume.Volume.{Volume}
 use Rattle.measures.specs.declared.volume.PeriodVolume.{PeriodVolume}
@@ -34,17 +34,17 @@ kop z limited = record { kop = z; limited = limited }
 -- whatever the history shows, and whatever the day-ahead price is
 pub record WorkedFigures : Type 0 where
   -- a quarter with 2000 kWh up and 2300 kWh down
-  pub above : (v : View) (p : Price) → state_in (Quarter 1) (sheet_of v p (forced 1201 (omega arith)) (offer 1 Up (kwh 2000 (omega arith)) p ∷ offer 1 Down (kwh 2300 (omega arith)) p ∷ [])) ≡ Deficit
-  pub even : (v : View) (p : Price) → state_in (Quarter 1) (sheet_of v p (forced 1200 (omega arith)) (offer 1 Up (kwh 2000 (omega arith)) p ∷ offer 1 Down (kwh 2300 (omega arith)) p ∷ [])) ≡ Balanced
-  pub below : (v : View) (p : Price) → state_in (Quarter 1) (sheet_of v p (forced 1199 (omega arith)) (offer 1 Up (kwh 2000 (omega arith)) p ∷ offer 1 Down (kwh 2300 (omega arith)) p ∷ [])) ≡ Surplus
+  pub above : (v : View) (p : Price) → state_in (Quarter 1) (sheet_of v p (forced 1201 (lit≤ tt)) (offer 1 Up (kwh 2000 (lit≤ tt)) p ∷ offer 1 Down (kwh 2300 (lit≤ tt)) p ∷ [])) ≡ Deficit
+  pub even : (v : View) (p : Price) → state_in (Quarter 1) (sheet_of v p (forced 1200 (lit≤ tt)) (offer 1 Up (kwh 2000 (lit≤ tt)) p ∷ offer 1 Down (kwh 2300 (lit≤ tt)) p ∷ [])) ≡ Balanced
+  pub below : (v : View) (p : Price) → state_in (Quarter 1) (sheet_of v p (forced 1199 (lit≤ tt)) (offer 1 Up (kwh 2000 (lit≤ tt)) p ∷ offer 1 Down (kwh 2300 (lit≤ tt)) p ∷ [])) ≡ Surplus
   -- quarters of 1000 kWh at 400000 and 1000 kWh at 400001, and of 2000 and 1000
-  pub half : (v : View) (p : Price) → mean_price Up (sheet_of v p (forced 0 (omega arith)) (offer 1 Up (kwh 1000 (omega arith)) (kop (pos 400000) (omega arith)) ∷ offer 2 Up (kwh 1000 (omega arith)) (kop (pos 400001) (omega arith)) ∷ [])) ≡ pos 400001
-  pub third : (v : View) (p : Price) → mean_price Up (sheet_of v p (forced 0 (omega arith)) (offer 1 Up (kwh 2000 (omega arith)) (kop (pos 400000) (omega arith)) ∷ offer 2 Up (kwh 1000 (omega arith)) (kop (pos 400001) (omega arith)) ∷ [])) ≡ pos 400000
+  pub half : (v : View) (p : Price) → mean_price Up (sheet_of v p (forced 0 (lit≤ tt)) (offer 1 Up (kwh 1000 (lit≤ tt)) (kop (pos 400000) (lit≤ tt)) ∷ offer 2 Up (kwh 1000 (lit≤ tt)) (kop (pos 400001) (lit≤ tt)) ∷ [])) ≡ pos 400001
+  pub third : (v : View) (p : Price) → mean_price Up (sheet_of v p (forced 0 (lit≤ tt)) (offer 1 Up (kwh 2000 (lit≤ tt)) (kop (pos 400000) (lit≤ tt)) ∷ offer 2 Up (kwh 1000 (lit≤ tt)) (kop (pos 400001) (lit≤ tt)) ∷ [])) ≡ pos 400000
   -- quarters of 1000 kWh at -3 and 1000 kWh at -4
-  pub negative : (v : View) (p : Price) → mean_price Up (sheet_of v p (forced 0 (omega arith)) (offer 1 Up (kwh 1000 (omega arith)) (kop (negsuc 2) (omega arith)) ∷ offer 2 Up (kwh 1000 (omega arith)) (kop (negsuc 3) (omega arith)) ∷ [])) ≡ pos 4
+  pub negative : (v : View) (p : Price) → mean_price Up (sheet_of v p (forced 0 (lit≤ tt)) (offer 1 Up (kwh 1000 (lit≤ tt)) (kop (negsuc 2) (lit≤ tt)) ∷ offer 2 Up (kwh 1000 (lit≤ tt)) (kop (negsuc 3) (lit≤ tt)) ∷ [])) ≡ pos 4
   -- the mean of -3 and -4
   pub halfway : mean (negsuc 2 ∷ negsuc 3 ∷ []) ≡ Some (negsuc 3)
   -- 5 kWh of forced reduction and no offers
-  pub forced_only : (v : View) (p : Price) → (state_in Period (sheet_of v p (forced 5 (omega arith)) []) ≡ Deficit) × ((settled (sheet_of v p (forced 5 (omega arith)) [])).imsp ≡ p.kop)
+  pub forced_only : (v : View) (p : Price) → (state_in Period (sheet_of v p (forced 5 (lit≤ tt)) []) ≡ Deficit) × ((settled (sheet_of v p (forced 5 (lit≤ tt)) [])).imsp ≡ p.kop)
   -- no offers and no forced reduction
-  pub nothing : (v : View) (p : Price) → state_in Period (sheet_of v p (forced 0 (omega arith)) []) ≡ Balanced
+  pub nothing : (v : View) (p : Price) → state_in Period (sheet_of v p (forced 0 (lit≤ tt)) []) ≡ Balanced
