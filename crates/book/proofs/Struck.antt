@@ -1,6 +1,6 @@
 -- Where prices are struck and none is entered, no room is wanted.
 use Rattle.std.proofs.Common.{◌≡◌, ℕ, zero, suc, ◌≤◌, false, ◌&&◌, eqb, ◌⊎◌, List, [], ◌∷◌, None, Option, refl, ap, inl, inr, ⊎_elim, arith}
-use Rattle.std.specs.List.{AllByRecursion as All}
+use Rattle.std.specs.List.{AllByRecursion}
 use Rattle.std.proofs.lemmas.Bool.{cond_both, le-ltb}
 use Rattle.measures.specs.declared.price.Price.{Price}
 use Rattle.price_history.specs.Keys.{span}
@@ -11,7 +11,7 @@ use Rattle.pricing.specs.Changes.{Change, changes_at}
 use Rattle.price_changes.specs.Changed.{touched, changed, changed_view, overfull}
 
 abbrev NothingNew : List Change → Type 0
-NothingNew cs = All (λ c. c.new ≡ None) cs
+NothingNew cs = AllByRecursion (λ c. c.new ≡ None) cs
 
 gone_or_kept : (f : ℕ → Option Price) (cs : List Change) (r : ℕ) → NothingNew cs → (changed f cs r ≡ None) ⊎ (changed f cs r ≡ f r)
 gone_or_kept f [] r none = inr refl

@@ -1,6 +1,6 @@
 -- The ten changes of a place, one for each span and direction.
 use Rattle.std.proofs.Common.{◌≡◌, ℕ, zero, suc, ◌<◌, ◌≤◌, true, ◌&&◌, eqb, ◌⊎◌, List, [], ◌∷◌, Option, sym, refl, ap, ◌∙◌, inl, inr, ⊎_elim, arith}
-use Rattle.std.specs.List.{AllByRecursion as All}
+use Rattle.std.specs.List.{AllByRecursion}
 use Rattle.std.proofs.lemmas.Bool.{cond-true, cond-false, and_from, and_right, eq-eqb, ne_eqb}
 use Rattle.price_history.specs.Keys.{span}
 use Rattle.price_history.proofs.Apart.{rank_below}
@@ -28,7 +28,7 @@ module _ (p : StatedPlace) (old new : Option Figures) where
   all = changes_at p.zone p.day p.period old new
 
   -- what holds of each span and direction holds of each change
-  pub for_each : (P : Change → Type 0) → ((s : Span) (d : Direction) → Within s → P (at s d)) → All P all
+  pub for_each : (P : Change → Type 0) → ((s : Span) (d : Direction) → Within s → P (at s d)) → AllByRecursion P all
   for_each P h = (
     h (Quarter 1) Up (omega arith, omega arith),
     (

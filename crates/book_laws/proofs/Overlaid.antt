@@ -1,6 +1,6 @@
 -- What a change of a sheet shows.
 use Rattle.std.proofs.Common.{◌≡◌, ℕ, Bool, true, false, ◌&&◌, eqb, List, [], ◌∷◌, None, Option, sym, refl, ap, ◌∙◌, ⊎_elim}
-use Rattle.std.specs.List.{AllByRecursion as All}
+use Rattle.std.specs.List.{AllByRecursion}
 use Rattle.std.proofs.lemmas.Bool.{false≢true, cases_Bool, cond_both, cond-true, cond-false, eqb-true}
 use Rattle.measures.specs.declared.price.Price.{Price}
 use Rattle.pricing.specs.Changes.{Change}
@@ -22,7 +22,7 @@ touched_from true b e = refl
 touched_from false b e = absurd (false≢true e)
 
 -- where the history shows what the newer sheet forms, nothing changes
-pub changed_same : (f : Shown) (cs : List Change) → All (λ c. f c.rank ≡ c.new) cs → (r : ℕ) → changed f cs r ≡ f r
+pub changed_same : (f : Shown) (cs : List Change) → AllByRecursion (λ c. f c.rank ≡ c.new) cs → (r : ℕ) → changed f cs r ≡ f r
 changed_same f [] same r = refl
 changed_same f (c ∷ cs) same r =
     cond_both (touched c && eqb r c.rank) c.new (changed f cs r) (λ o. o ≡ f r)
@@ -30,7 +30,7 @@ changed_same f (c ∷ cs) same r =
     (λ _. changed_same f cs same.1 r)
 
 -- no change is at the rank that would be told there
-pub changed_off : (f : Shown) (cs : List Change) (r : ℕ) → All (λ c. r ≡ c.rank → touched c ≡ false) cs → changed f cs r ≡ f r
+pub changed_off : (f : Shown) (cs : List Change) (r : ℕ) → AllByRecursion (λ c. r ≡ c.rank → touched c ≡ false) cs → changed f cs r ≡ f r
 changed_off f [] r off = refl
 changed_off f (c ∷ cs) r off =
     cond_both (touched c && eqb r c.rank) c.new (changed f cs r) (λ o. o ≡ f r)

@@ -1,7 +1,7 @@
 -- A sheet that was read and put on the shelf is in force.
 use Rattle.std.proofs.Common.{◌≡◌, ℕ, ◌≤◌, Bool, true, leb, List, [], ◌∷◌, ◌++◌, length, replicate, Some, refl, ap, ◌∙◌}
 use lib.Seq.{take-append_seam}
-use Rattle.std.specs.List.{list_all, AllByRecursion as All}
+use Rattle.std.specs.List.{list_all, AllByRecursion}
 use Rattle.std.proofs.lemmas.List.{take-take}
 use Rattle.std.proofs.lemmas.Bool.{cond-true, and_from, le-leb}
 use Rattle.measures.specs.Calendar.{between}
@@ -30,7 +30,7 @@ figures_packed f offers units groups = λ i. record {
 between_from : (a b n : ℕ) → Between a b n → between a b n ≡ true
 between_from a b n h = and_from (leb a n) (leb n b) (le-leb a n h.0) (le-leb n b h.1)
 
-all_from : {X : Type 0} (P : X → Type 0) (p : X → Bool) → ((x : X) → P x → p x ≡ true) → (xs : List X) → All P xs → list_all p xs ≡ true
+all_from : {X : Type 0} (P : X → Type 0) (p : X → Bool) → ((x : X) → P x → p x ≡ true) → (xs : List X) → AllByRecursion P xs → list_all p xs ≡ true
 all_from P p each [] all = refl
 all_from P p each (x ∷ xs) all = and_from (p x) (list_all p xs) (each x all.0) (all_from P p each xs all.1)
 

@@ -1,7 +1,7 @@
 -- The outermost price bounds each picked price, and is one of them.
 use Rattle.std.proofs.Common.{◌≡◌, Bool, true, false, cond, List, [], ◌∷◌, ◌++◌, ℤ, Some, None, fold, Option, sym, refl, ◌∙◌, append_assoc, append-nil, arith}
 use lib.Signed.{lt_z, ≤ℤ_refl}
-use Rattle.std.specs.List.{ContainsAt as Has}
+use Rattle.std.specs.List.{ContainsAt}
 use Rattle.std.proofs.ByRecursion.{All-push, All-weaker, has_push, has_append_left}
 use Rattle.std.proofs.lemmas.Int.{ints}
 use Rattle.measures.specs.declared.price.Price.{Price}
@@ -41,7 +41,7 @@ inside_trans Down x y z p q = omega (arith, ints)
 
 module _ (d : Direction) (pick : Offer → Bool) where
   Offered : List Offer → Price → Type 0
-  Offered os p = (o : Offer) × (Has os o × (pick o ≡ true) × (o.price ≡ p))
+  Offered os p = (o : Offer) × (ContainsAt os o × (pick o ≡ true) × (o.price ≡ p))
 
   kept : (ps : List Offer) (o : Offer) (p : Price) → Offered ps p → Offered (ps ++ o ∷ []) p
   unfolding Offered

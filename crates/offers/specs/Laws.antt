@@ -1,6 +1,6 @@
 -- What the states and the outermost prices mean.
 use Rattle.std.specs.Prelude.{◌≡◌, ℕ, ◌+◌, ◌*◌, ◌<◌, Bool, true, false, List, ℤ, ◌≤ℤ◌, Some, None, Option}
-use Rattle.std.specs.List.{ContainsAt as Has, AllByRecursion as All}
+use Rattle.std.specs.List.{ContainsAt, AllByRecursion}
 use Rattle.measures.specs.declared.price.Price.{Price}
 use Rattle.sheet.specs.declared.lines.Offer.{Offer}
 use Rattle.sheet.specs.declared.lines.Direction.{Direction}
@@ -30,8 +30,8 @@ Inside Down r p = p ≤ℤ r
 
 -- no picked offer has a price farther out, and one of them has this price; none where none is picked
 abbrev pub Outermost : Direction → (Offer → Bool) → List Offer → Option Price → Type 0
-Outermost d pick os None = All (λ o. pick o ≡ false) os
-Outermost d pick os (Some p) = All (λ o. pick o ≡ true → Inside d o.price.kop p.kop) os × ((o : Offer) × (Has os o × (pick o ≡ true) × (o.price ≡ p)))
+Outermost d pick os None = AllByRecursion (λ o. pick o ≡ false) os
+Outermost d pick os (Some p) = AllByRecursion (λ o. pick o ≡ true → Inside d o.price.kop p.kop) os × ((o : Offer) × (ContainsAt os o × (pick o ≡ true) × (o.price ≡ p)))
 
 abbrev pub OutermostPricesAreOffered : Type 0
 OutermostPricesAreOffered = (d : Direction) (pick : Offer → Bool) (os : List Offer) → Outermost d pick os (outermost d pick os)

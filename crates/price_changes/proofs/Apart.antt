@@ -1,7 +1,7 @@
 -- Changes in the order of their ranks are at ranks that differ.
 use Rattle.std.proofs.Common.{◌≡◌, ℕ, suc, ◌<◌, ◌≤◌, List, [], ◌∷◌, map, sym, subst, add-one, arith}
 use Rattle.std.specs.List.Sorted.{IsStrictlyIncreasing}
-use Rattle.std.specs.List.{AllByRecursion as All}
+use Rattle.std.specs.List.{AllByRecursion}
 use Rattle.price_history.specs.Keys.{span, rank_of}
 use Rattle.price_history.proofs.Apart.{rank_below}
 use Rattle.pricing.specs.Changes.{Change, plain}
@@ -31,11 +31,11 @@ climbs_off x y (c ∷ cs) h le =
     let lt : y < c.rank = h 0 (omega arith) in
     ((λ e. omega arith), climbs_off x c.rank cs (climbs_tail y (c.rank ∷ ranks cs) h) (omega arith))
 
-pub apart_from : (cs : List Change) → IsStrictlyIncreasing (ranks cs) → All (λ c. c.rank < span) cs → Apart cs
+pub apart_from : (cs : List Change) → IsStrictlyIncreasing (ranks cs) → AllByRecursion (λ c. c.rank < span) cs → Apart cs
 apart_from [] h below = tt
 apart_from (c ∷ cs) h below = (below.0, climbs_off c.rank c.rank cs h (omega arith), apart_from cs (climbs_tail c.rank (ranks cs) h) below.1)
 
-below_span : (cs : List PriceChange) → All (λ c. c.rank < span) (map plain cs)
+below_span : (cs : List PriceChange) → AllByRecursion (λ c. c.rank < span) (map plain cs)
 below_span [] = tt
 below_span (c ∷ cs) = (rank_below c.key, below_span cs)
 

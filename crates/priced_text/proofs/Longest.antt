@@ -1,7 +1,7 @@
 -- How long the text of a priced period can be.
 use Rattle.std.proofs.Common.{ℕ, ◌+◌, ◌*◌, ◌^◌, ◌<◌, ◌≤◌, List, [], ◌∷◌, ◌++◌, length, ℤ, pos, negsuc, nat_abs, codes, decimal, le_refl, mul-le-mul, mul-suc, arith, length-append}
 use lib.Signed.{mag}
-use Rattle.std.specs.List.{flat_map, AllByRecursion as All}
+use Rattle.std.specs.List.{flat_map, AllByRecursion}
 use Rattle.std.specs.Fmt.{signed_decimal}
 use Rattle.std.proofs.lemmas.Fmt.{length-decimal-le, length_signed_le}
 use Rattle.offers.specs.declared.span.State.{State}
@@ -45,7 +45,7 @@ charge_length k n z some digits fits small =
       signed_length 14 10000000000000 z small (omega arith) (omega arith),
     )
 
-joined_length : {X : Type 0} (f : X → List ℕ) (most : ℕ) (xs : List X) → All (λ x. length (f x) ≤ most) xs → length (flat_map f xs) ≤ most * length xs
+joined_length : {X : Type 0} (f : X → List ℕ) (most : ℕ) (xs : List X) → AllByRecursion (λ x. length (f x) ≤ most) xs → length (flat_map f xs) ≤ most * length xs
 joined_length f most [] h = omega arith
 joined_length f most (x ∷ xs) h =
     let rest = joined_length f most xs h.1 in
@@ -54,10 +54,10 @@ joined_length f most (x ∷ xs) h =
 
 -- what is charged of each line is within these
 abbrev pub ChargesWithin : {L : Type 0} → ℕ → (L → ℕ) → (L → ℤ) → List L → Type 0
-ChargesWithin top number charge ls = All (λ l. (number l ≤ top) × (nat_abs (charge l) ≤ 10000000000000)) ls
+ChargesWithin top number charge ls = AllByRecursion (λ l. (number l ≤ top) × (nat_abs (charge l) ≤ 10000000000000)) ls
 
 module _ {L : Type 0} (k top : ℕ) (some : 0 < k) (digits : top < 10 ^ k) (fits : top < 2 ^ 64) (number : L → ℕ) (charge : L → ℤ) where
-  each_length : (ls : List L) → ChargesWithin top number charge ls → All (λ l. length (charge_line (number l) (charge l)) ≤ k + 22) ls
+  each_length : (ls : List L) → ChargesWithin top number charge ls → AllByRecursion (λ l. length (charge_line (number l) (charge l)) ≤ k + 22) ls
   each_length [] h = tt
   each_length (l ∷ ls) h = (let under = h.0.0 in charge_length k (number l) (charge l) some (omega arith) (omega arith) h.0.1, each_length ls h.1)
 

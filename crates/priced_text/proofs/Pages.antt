@@ -1,7 +1,7 @@
 -- The text of a priced sheet within its limits is at most 935 bytes long.
 use Rattle.std.proofs.Common.{ℕ, suc, ◌*◌, ◌≤◌, Bool, true, false, cond, List, [], ◌∷◌, ◌++◌, length, ℤ, pos, negsuc, ◌-ℤ◌, ◌*ℤ◌, neg_ℤ, nat_abs, codes, ap, mul-suc, arith, length-append}
 use borrow.Author.Differences.{ints}
-use Rattle.std.specs.List.{AllByRecursion as All}
+use Rattle.std.specs.List.{AllByRecursion}
 use Rattle.measures.proofs.Products.{product_within, times_neg}
 use Rattle.sheet.specs.Sides.{one_way, one_side}
 use Rattle.sheet.specs.Figures.{Figures}
@@ -41,11 +41,11 @@ signed_size p e Shortage h he =
     omega (arith, small, ap nat_abs (times_neg p (pos e)))
 
 module _ (p : Settled) (l : Limited p) where
-  units_within : (ls : List UnitLine) → All (λ x. x.unit ≤ 999) ls → ChargesWithin 999 (λ x. x.unit) (unit_charge p) ls
+  units_within : (ls : List UnitLine) → AllByRecursion (λ x. x.unit ≤ 999) ls → ChargesWithin 999 (λ x. x.unit) (unit_charge p) ls
   units_within [] h = tt
   units_within (x ∷ xs) h = ((h.0, unit_size p.up p.down x.energy.kwh x.direction l.up l.down x.energy.limited), units_within xs h.1)
 
-  groups_within : (ls : List GroupLine) → All (λ x. x.party ≤ 64) ls → ChargesWithin 64 (λ x. x.party) (group_charge p) ls
+  groups_within : (ls : List GroupLine) → AllByRecursion (λ x. x.party ≤ 64) ls → ChargesWithin 64 (λ x. x.party) (group_charge p) ls
   groups_within [] h = tt
   groups_within (x ∷ xs) h = ((h.0, signed_size p.imsp x.imbalance.kwh x.position l.imsp x.imbalance.limited), groups_within xs h.1)
 

@@ -2,7 +2,7 @@
 use Rattle.std.proofs.Common.{ℕ, zero, suc, ◌+◌, ◌-◌, ◌*◌, ◌≤◌, List, [], ◌∷◌, length, ℤ, pos, ◌+ℤ◌, nat_abs, Some, None, Option, unwrap_or, le_refl, zero-lt-suc, mul-suc, arith}
 use borrow.Author.Differences.{ints}
 use Rattle.std.specs.Option.{option_map}
-use Rattle.std.specs.List.{AllByRecursion as All}
+use Rattle.std.specs.List.{AllByRecursion}
 use Rattle.std.proofs.ByRecursion.{All-take}
 use Rattle.measures.specs.Rounding.{quotient}
 use Rattle.measures.specs.declared.price.Price.{Price}
@@ -35,15 +35,15 @@ price_small : (o : Option Price) (z : ℤ) → Small z → Small (unwrap_or (opt
 price_small (Some price) z small = price.limited
 price_small None z small = small
 
-behind_small : (o : Option Price) (prices : List ℤ) → All Small prices → All Small (behind o prices)
+behind_small : (o : Option Price) (prices : List ℤ) → AllByRecursion Small prices → AllByRecursion Small (behind o prices)
 behind_small (Some price) prices h = (price.limited, h)
 behind_small None prices h = h
 
-back_small : (daily : ℕ → Option Price) (n day : ℕ) → All Small (shown_back daily n day)
+back_small : (daily : ℕ → Option Price) (n day : ℕ) → AllByRecursion Small (shown_back daily n day)
 back_small daily zero day = tt
 back_small daily (suc n) day = behind_small (daily (day - 1)) (shown_back daily n (day - 1)) (back_small daily n (day - 1))
 
-sum_small : (prices : List ℤ) → All Small prices → nat_abs (sum prices) ≤ 10000000 * length prices
+sum_small : (prices : List ℤ) → AllByRecursion Small prices → nat_abs (sum prices) ≤ 10000000 * length prices
 sum_small [] h = omega arith
 sum_small (price ∷ prices) h =
     let first = h.0 in

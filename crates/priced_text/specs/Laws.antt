@@ -1,6 +1,6 @@
 -- What holds of every priced text, and of the line of every refusal.
 use Rattle.std.specs.Prelude.{◌≡◌, ℕ, ◌^◌, ◌<◌, ◌≤◌, List, length, Ok}
-use Rattle.std.specs.List.{AllByRecursion as All}
+use Rattle.std.specs.List.{AllByRecursion}
 use Rattle.price_history.specs.Views.{View}
 use Rattle.sheet.specs.Figures.{Figures}
 use Rattle.sheet_text.specs.Reading.{Reported, reading}
@@ -14,8 +14,8 @@ use Rattle.priced_text.specs.Refusals.{line_of_refusal}
 pub record Listed (s : Figures) : Type 0 where
   pub few_units : length s.units ≤ 16
   pub few_groups : length s.groups ≤ 16
-  pub units : All (λ l. l.unit ≤ 999) s.units
-  pub groups : All (λ l. l.party ≤ 64) s.groups
+  pub units : AllByRecursion (λ l. l.unit ≤ 999) s.units
+  pub groups : AllByRecursion (λ l. l.party ≤ 64) s.groups
 
 -- no priced text is longer: of a case with such lists, and of a text that was read, whatever a history shows
 pub record LongestPriced (most : ℕ) : Type 0 where

@@ -3,7 +3,7 @@ use Rattle.std.proofs.Common.{◌≡◌, ℕ, zero, suc, ◌+◌, ◌<◌, ◌�
 use Prim.Native.String.{String}
 use Rattle.std.proofs.ByRecursion.{All-push}
 use Rattle.std.proofs.lemmas.List.{length_push}
-use Rattle.std.specs.List.{AllByRecursion as All}
+use Rattle.std.specs.List.{AllByRecursion}
 use Rattle.measures.specs.declared.price.Price.{Price}
 use Rattle.measures.specs.declared.volume.PeriodVolume.{PeriodVolume}
 use Rattle.sheet.specs.declared.lines.GroupLine.{GroupLine}
@@ -63,7 +63,7 @@ Chain R order a (x ∷ xs) b = R a x × Chain R order (order x) xs b
 
 -- at most so many entries, each of them P and behind the one before it
 abbrev Few : {A : Type 0} → (A → Type 0) → (ℕ → A → Type 0) → (A → ℕ) → ℕ → List A → Type 0
-Few P R order most xs = All P xs × (length xs ≤ most) × ((b : ℕ) × Chain R order 0 xs b)
+Few P R order most xs = AllByRecursion P xs × (length xs ≤ most) × ((b : ℕ) × Chain R order 0 xs b)
 
 module _ {A : Type 0} (R : ℕ → A → Type 0) (order : A → ℕ) where
   chain_push : (a b : ℕ) (xs : List A) (x : A) → Chain R order a xs b → R b x → Chain R order a (xs ++ x ∷ []) (order x)
@@ -77,9 +77,9 @@ chain_rises order a b (x ∷ xs) h = (h.0, chain_rises order (order x) b xs h.1)
 module _ {A : Type 0} (says : ℕ → ℕ → List (List ℕ) → Result A LineFault) (order : A → ℕ) (P : A → Type 0) (R : ℕ → A → Type 0)
     (each : (before l : ℕ) (ws : List (List ℕ)) → Says l (λ x. P x × R before x) (says before l ws)) where
   abbrev Good : ℕ → List A → Type 0
-  Good n xs = All P xs × (length xs ≡ n) × ((b : ℕ) × Chain R order 0 xs b)
+  Good n xs = AllByRecursion P xs × (length xs ≡ n) × ((b : ℕ) × Chain R order 0 xs b)
 
-  gives_entries : (n before : ℕ) (xs : List A) (s : Left) → All P xs → Chain R order 0 xs before → Gives (λ r. Good (length xs + n) r.0) (entries says order n before xs s)
+  gives_entries : (n before : ℕ) (xs : List A) (s : Left) → AllByRecursion P xs → Chain R order 0 xs before → Gives (λ r. Good (length xs + n) r.0) (entries says order n before xs s)
   gives_entries zero before xs s h c = (h, omega arith, (before, c))
   gives_entries (suc n) before xs s h c =
       gives_then (λ x. P x.0 × R before x.0) _ (a_line (says before) s) _ (gives_line _ (says before) s (each before)) (λ x p.

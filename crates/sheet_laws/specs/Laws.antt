@@ -1,6 +1,6 @@
 -- What holds of every text.
 use Rattle.std.specs.Prelude.{◌≡◌, ℕ, zero, suc, ◌<◌, ◌≤◌, List, [], ◌∷◌, length, Some, Ok, Err, Option, unsigned_abs}
-use Rattle.std.specs.List.{AllByRecursion as All}
+use Rattle.std.specs.List.{AllByRecursion}
 use Rattle.sheet.specs.declared.lines.Offer.{Offer}
 use Rattle.sheet.specs.declared.lines.UnitLine.{UnitLine}
 use Rattle.sheet.specs.declared.lines.GroupLine.{GroupLine}
@@ -43,9 +43,9 @@ pub record WithinLimits (r : Reported) : Type 0 where
   pub few_offers : length r.figures.offers ≤ 24
   pub few_units : length r.figures.units ≤ 16
   pub few_groups : length r.figures.groups ≤ 16
-  pub offers : All OfferWithin r.figures.offers
-  pub units : All UnitWithin r.figures.units
-  pub groups : All GroupWithin r.figures.groups
+  pub offers : AllByRecursion OfferWithin r.figures.offers
+  pub units : AllByRecursion UnitWithin r.figures.units
+  pub groups : AllByRecursion GroupWithin r.figures.groups
   pub units_rise : Rises (λ u. u.unit) 0 r.figures.units
   pub parties_rise : Rises (λ g. g.party) 0 r.figures.groups
 

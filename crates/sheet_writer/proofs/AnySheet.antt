@@ -1,6 +1,6 @@
 -- The text of any sheet fits the page, whatever its numbers are.
 use Rattle.std.proofs.Common.{ℕ, ◌≤◌, List, [], ◌∷◌, length, arith, length-take}
-use Rattle.std.specs.List.{AllByRecursion as All}
+use Rattle.std.specs.List.{AllByRecursion}
 use Rattle.sheet.specs.Figures.{figures_of}
 use Rattle.sheet.specs.Listed.{listed}
 use Rattle.sheet.specs.declared.entries.Entries.{Entries}
@@ -9,7 +9,7 @@ use Rattle.sheet.specs.declared.report.Sheet.{Sheet}
 use Rattle.sheet_writer.specs.Rendered.{text_of_sheet}
 use Rattle.sheet_writer.proofs.Longest.{OfferDigits, UnitDigits, GroupDigits, any_number, rendered_length}
 
-all_any : {X : Type 0} (P : X → Type 0) → ((x : X) → P x) → (xs : List X) → All P xs
+all_any : {X : Type 0} (P : X → Type 0) → ((x : X) → P x) → (xs : List X) → AllByRecursion P xs
 all_any P h [] = tt
 all_any P h (x ∷ xs) = (h x, all_any P h xs)
 

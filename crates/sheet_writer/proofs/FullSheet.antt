@@ -1,7 +1,7 @@
 -- The text of a sheet within its limits has at most 1612 bytes, and that of a full sheet has so many.
 use Rattle.std.proofs.Common.{◌≡◌, ℕ, zero, suc, ◌+◌, ◌^◌, ◌<◌, ◌≤◌, true, List, [], ◌∷◌, length, replicate, negsuc, decimal, refl, arith}
 use Rattle.std.specs.Fmt.{digits}
-use Rattle.std.specs.List.{AllByRecursion as All}
+use Rattle.std.specs.List.{AllByRecursion}
 use Rattle.std.proofs.lemmas.Fmt.{length-decimal-le}
 use Rattle.std.proofs.ByRecursion.{All-weaker}
 use Rattle.measures.specs.declared.price.Price.{Price}
@@ -36,7 +36,7 @@ numbered make zero n = []
 numbered make (suc k) n = make n ∷ numbered make k (suc n)
 
 module _ {A : Type 0} (make : ℕ → A) where
-  all_numbered : (P : A → Type 0) (most : ℕ) → ((n : ℕ) → 1 ≤ n → n ≤ most → P (make n)) → (k n : ℕ) → 1 ≤ n → n + k ≤ most + 1 → All P (numbered make k n)
+  all_numbered : (P : A → Type 0) (most : ℕ) → ((n : ℕ) → 1 ≤ n → n ≤ most → P (make n)) → (k n : ℕ) → 1 ≤ n → n + k ≤ most + 1 → AllByRecursion P (numbered make k n)
   all_numbered P most each zero n low high = tt
   all_numbered P most each (suc k) n low high = (each n low (omega arith), all_numbered P most each k (suc n) (omega arith) (omega arith))
 
@@ -44,7 +44,7 @@ module _ {A : Type 0} (make : ℕ → A) where
   numbered_rise order is zero n before low = tt
   numbered_rise order is (suc k) n before low = (omega (arith, is n), numbered_rise order is k (suc n) (order (make n)) (omega (arith, is n)))
 
-all_replicate : {A : Type 0} (P : A → Type 0) (x : A) → P x → (k : ℕ) → All P (replicate k x)
+all_replicate : {A : Type 0} (P : A → Type 0) (x : A) → P x → (k : ℕ) → AllByRecursion P (replicate k x)
 all_replicate P x h zero = tt
 all_replicate P x h (suc k) = (h, all_replicate P x h k)
 

@@ -1,7 +1,7 @@
 -- How long the text of a sheet can be.
 use Rattle.std.proofs.Common.{◌≡◌, ℕ, zero, suc, ◌+◌, ◌*◌, ◌/◌, ◌%◌, ◌<◌, ◌≤◌, Bool, true, false, eqb, List, [], ◌∷◌, ◌++◌, length, ℤ, pos, negsuc, nat_abs, codes, decimal, refl, le_refl, mul-le-mul, mul-suc, arith, length-append}
 use lib.Signed.{mag}
-use Rattle.std.specs.List.{flat_map, AllByRecursion as All}
+use Rattle.std.specs.List.{flat_map, AllByRecursion}
 use Rattle.std.specs.Fmt.{digits, digit_glyph, signed_decimal, digits_onto}
 use Rattle.std.proofs.lemmas.Fmt.{length-decimal-le, length_signed_le}
 use Rattle.std.proofs.ByRecursion.{All-weaker}
@@ -122,7 +122,7 @@ group_length k g h =
       volume_length g.imbalance,
     )
 
-joined_length : {X : Type 0} (f : X → List ℕ) (most : ℕ) (xs : List X) → All (λ x. length (f x) ≤ most) xs → length (flat_map f xs) ≤ most * length xs
+joined_length : {X : Type 0} (f : X → List ℕ) (most : ℕ) (xs : List X) → AllByRecursion (λ x. length (f x) ≤ most) xs → length (flat_map f xs) ≤ most * length xs
 joined_length f most [] h = omega arith
 joined_length f most (x ∷ xs) h =
     let rest = joined_length f most xs h.1 in
@@ -130,7 +130,7 @@ joined_length f most (x ∷ xs) h =
     omega (arith, length-append (f x) (flat_map f xs), mul-suc most (length xs))
 
 -- a list of at most so many entries
-list_length : {A : Type 0} (keyword : List ℕ) (fields : A → List (List ℕ)) (each many : ℕ) (xs : List A) → All (λ x. length (line (fields x)) ≤ each) xs → length xs ≤ many → many < 100 →
+list_length : {A : Type 0} (keyword : List ℕ) (fields : A → List (List ℕ)) (each many : ℕ) (xs : List A) → AllByRecursion (λ x. length (line (fields x)) ≤ each) xs → length xs ≤ many → many < 100 →
     length (list_text keyword fields xs) ≤ length keyword + 4 + each * many
 list_length keyword fields each many xs short few two =
     let most : each * length xs ≤ each * many = mul-le-mul (le_refl each) few in
@@ -144,9 +144,9 @@ list_length keyword fields each many xs short few two =
 
 -- the numbers of a sheet have at most so many digits, and its lists no more entries than places
 pub record Digits (q u n p : ℕ) (s : Figures) : Type 0 where
-  pub offers : All (OfferDigits q u) s.offers
-  pub units : All (UnitDigits n) s.units
-  pub groups : All (GroupDigits p) s.groups
+  pub offers : AllByRecursion (OfferDigits q u) s.offers
+  pub units : AllByRecursion (UnitDigits n) s.units
+  pub groups : AllByRecursion (GroupDigits p) s.groups
   pub few_offers : length s.offers ≤ 24
   pub few_units : length s.units ≤ 16
   pub few_groups : length s.groups ≤ 16

@@ -1,6 +1,6 @@
 -- The fields of a line, put together with spaces, are the line; and a line is parted into its fields.
 use Rattle.std.proofs.Common.{◌≡◌, ℕ, ◌<◌, ◌≤◌, Bool, true, false, cond, ◌&&◌, eqb, ltb, List, [], ◌∷◌, ◌++◌, length, Some, None, codes, sym, refl, ap, ◌∙◌, append_assoc, arith}
-use Rattle.std.specs.List.{AllByRecursion as All}
+use Rattle.std.specs.List.{AllByRecursion}
 use Rattle.std.proofs.lemmas.Bool.{and_parts, and_from, eq-eqb, eqb-true, lt-ltb, ltb-true, ne_eqb}
 use Rattle.text.specs.Cuts.{cut, onto, parts}
 use Rattle.text.proofs.Parted.{first_part, only_part, parts_some}
@@ -51,7 +51,7 @@ module _ (at m : ℕ) (low : at ≤ m) where
 
 -- no byte of the fields is a space or a line end
 abbrev pub Clean : List (List ℕ) → Type 0
-Clean fs = All (λ f. above 32 f ≡ true) fs
+Clean fs = AllByRecursion (λ f. above 32 f ≡ true) fs
 
 pub parts_spaced : (fs : List (List ℕ)) → 0 < length fs → Clean fs → parts 32 (spaced fs) ≡ fs
 parts_spaced [] some h = absurd (omega arith)

@@ -1,7 +1,7 @@
 -- The text of a sheet within its limits is read as that sheet.
 use Rattle.std.proofs.Common.{◌≡◌, ℕ, ◌+◌, ◌^◌, ◌<◌, ◌≤◌, true, List, [], ◌∷◌, ◌++◌, length, Ok, codes, Result, sym, refl, ap, ◌∙◌, append_assoc, append-nil, arith}
 use Prim.Native.String.{String}
-use Rattle.std.specs.List.{flat_map, AllByRecursion as All}
+use Rattle.std.specs.List.{flat_map, AllByRecursion}
 use Rattle.text.specs.Cuts.{parts}
 use Rattle.sheet_laws.specs.Laws.{OfferWithin, UnitWithin, GroupWithin, Rises, WithinLimits}
 use Rattle.sheet_text.specs.Lines.{one, two, three, four, eight, period_line, day_ahead_line, forced_line, count_line, offer_line, unit_line, group_line, end_line}
@@ -63,11 +63,11 @@ module _ {A : Type 0} (fields : A → List (List ℕ)) (says : ℕ → ℕ → L
             ∙ all.1,
       )
 
-all_chain : {A : Type 0} (P : A → Type 0) (order : A → ℕ) (before : ℕ) (xs : List A) → All P xs → Chain (λ _ x. P x) order before xs
+all_chain : {A : Type 0} (P : A → Type 0) (order : A → ℕ) (before : ℕ) (xs : List A) → AllByRecursion P xs → Chain (λ _ x. P x) order before xs
 all_chain P order before [] h = tt
 all_chain P order before (x ∷ xs) h = (h.0, all_chain P order (order x) xs h.1)
 
-rising_chain : {A : Type 0} (P : A → Type 0) (order : A → ℕ) (before : ℕ) (xs : List A) → All P xs → Rises order before xs → Chain (λ b x. P x × (b < order x)) order before xs
+rising_chain : {A : Type 0} (P : A → Type 0) (order : A → ℕ) (before : ℕ) (xs : List A) → AllByRecursion P xs → Rises order before xs → Chain (λ b x. P x × (b < order x)) order before xs
 rising_chain P order before [] h r = tt
 rising_chain P order before (x ∷ xs) h r = ((h.0, r.0), rising_chain P order (order x) xs h.1 r.1)
 
