@@ -1,5 +1,5 @@
 // Writing text, and handing it over.
-ghost use Rattle.std.specs.Prelude.{◌≡◌, ◌+◌, ◌<◌, leb, [], ◌∷◌, ◌++◌, length, drop, is_ok, if◌then◌else◌, Some, None, nat_le};
+ghost use Rattle.std.specs.Prelude.{◌≡◌, ◌+◌, ◌<◌, [], ◌∷◌, ◌++◌, length, drop, is_ok, if◌then◌else◌, Some, None, nat_le};
 ghost use Rattle.std.specs.Result.{result_ok};
 ghost use Rattle.text_buffer.specs.Texts.{written};
 
@@ -47,7 +47,7 @@ impl<const N: usize> TextBuffer<N> {
     // Copies the text to the front of `out`, and says how long it is. Where it does not fit, `out`
     // stays as it is.
     pub fn copy_to(&self, out: &mut [u8]) -> Result<usize, NoRoom>
-        ensures length { result_ok result ≡ (if leb (length (written self.now)) (length out.old) then Some (length (written self.now)) else None) }
+        ensures length { result_ok result ≡ (if nat_le (length (written self.now)) (length out.old) then Some (length (written self.now)) else None) }
         ensures after { out.new ≡ (if is_ok result then written self.now ++ drop (length (written self.now)) out.old else out.old) }
     {
         let text = self.as_bytes();
