@@ -5,18 +5,12 @@ use Rattle.std.specs.List.{insert, remove}
 use Rattle.std.proofs.lemmas.List.{take-map, drop-map, map-append}
 use Rattle.std.proofs.lemmas.List.Edits.{length-insert, get_or-insert_below, get_or-insert_at, get_or-insert_above, length-remove, get_or-remove_below, get_or-remove_above}
 use Rattle.std.proofs.lemmas.Bool.{cases_eq, cases_lt, cases_order, cond-true, cond-false, eq-eqb, ne_eqb, eqb-true}
+use Rattle.std.proofs.lemmas.Cmp.{nat_eq_equiv}
 use Rattle.ordered_list.specs.declared.entry.Entry.{Entry}
 use Rattle.ordered_list.specs.Entries.{ranks, value_at}
 use Rattle.ordered_list.specs.Finding.{Here, Before}
 use Rattle.ordered_list.specs.Order.{Rising}
 use Rattle.ordered_list.proofs.Searching.{missing_shown, here_alone, length_ranks}
-
-flip : (x y : ℕ) → eqb x y ≡ eqb y x
-flip x y =
-    ⊎_elim
-    (λ e. eq-eqb x y e ∙ sym (eq-eqb y x (sym e)))
-    (λ ne. ne_eqb x y ne ∙ sym (ne_eqb y x (λ e. ne (sym e))))
-    (cases_eq x y)
 
 -- two choices that are not both made can be made in either order
 swapped : {X : Type 0} (a b : Bool) (x y z : X) → (a ≡ true → b ≡ true → ⊥) → cond b x (cond a y z) ≡ cond a y (cond b x z)
@@ -98,7 +92,7 @@ module _ (ks : List ℕ) (at : ℕ) (here : at < length ks) where
 
 module _ {V : Type 0} where
   inserted_shows : (es : List (Entry V)) (e : Entry V) (at q : ℕ) → at ≤ length es → ((k : ℕ) → k < at → get_or (ranks es) k 0 ≡ e.rank → ⊥) → value_at (insert es at e) q ≡ cond (eqb e.rank q) (Some e.value) (value_at es q)
-  inserted_shows es e zero q le h = ap (λ b. cond b (Some e.value) (value_at es q)) (flip q e.rank)
+  inserted_shows es e zero q le h = ap (λ b. cond b (Some e.value) (value_at es q)) (nat_eq_equiv.symm q e.rank)
   inserted_shows [] e (suc at) q le h = absurd (omega arith)
   inserted_shows (x ∷ es) e (suc at) q le h =
       ap (cond (eqb q x.rank) (Some x.value)) (inserted_shows es e at q (omega arith) (λ k lt. h (suc k) (omega arith)))

@@ -2,6 +2,7 @@
 use Rattle.std.proofs.Common.{◌≡◌, ℕ, ◌+◌, ◌<◌, Bool, true, false, cond, ◌&&◌, ◌||◌, eqb, List, [], ◌∷◌, is_some, Option, refl, ap, ◌∙◌, ⊎_elim, arith}
 use Rattle.std.specs.Map.{update}
 use Rattle.std.proofs.lemmas.Bool.{cases_Bool}
+use Rattle.std.proofs.lemmas.Cmp.{nat_eq_equiv}
 use Rattle.price_history.specs.Keys.{span}
 use Rattle.price_history.specs.Views.{tallied}
 use Rattle.price_history.proofs.Tallies.{one, tallied_same, tallied_update}
@@ -11,7 +12,7 @@ use Rattle.price_changes.specs.Changed.{touched, overlaid, changed}
 use Rattle.price_changes.specs.Counts.{counted, struck_count, entered_count}
 use Rattle.price_changes.specs.Laws.{ChangesAreCounted}
 use Rattle.price_changes.proofs.Apart.{Off, Apart, apart_from}
-use Rattle.price_changes.proofs.Overlay.{Shown, none, flip, overlaid_off}
+use Rattle.price_changes.proofs.Overlay.{Shown, none, overlaid_off}
 
 -- how many of the picked changes have a price by o
 abbrev pub shown_by : (Change → Bool) → (Change → Option Price) → List Change → ℕ
@@ -24,7 +25,7 @@ module _ (picked : Change → Bool) (told : Change → Option Price) (f : Shown)
   one_more : (c : Change) (cs : List Change) → c.rank < span → Off c.rank cs → (b : Bool) → picked c ≡ b →
       tallied (rest (c ∷ cs)) span + cond (b && is_some (f c.rank)) 1 0 ≡ tallied (rest cs) span + cond (b && is_some (told c)) 1 0
   one_more c cs below off true e =
-      let same = tallied_same (rest (c ∷ cs)) (update eqb (rest cs) c.rank (told c)) span (λ q _. ap (λ b. cond (b && eqb q c.rank) (told c) (rest cs q)) e ∙ ap (λ b. cond b (told c) (rest cs q)) (flip q c.rank)) in
+      let same = tallied_same (rest (c ∷ cs)) (update eqb (rest cs) c.rank (told c)) span (λ q _. ap (λ b. cond (b && eqb q c.rank) (told c) (rest cs q)) e ∙ ap (λ b. cond b (told c) (rest cs q)) (nat_eq_equiv.symm q c.rank)) in
       let was : one (rest cs c.rank) ≡ one (f c.rank) = ap one (overlaid_off picked told c.rank f cs off) in
       omega (arith, same, was, tallied_update (rest cs) c.rank (told c) span below)
   one_more c cs below off false e =

@@ -1,6 +1,6 @@
 -- What is shown at one rank under changes.
-use Rattle.std.proofs.Common.{◌≡◌, ℕ, Bool, cond, ◌&&◌, eqb, List, [], ◌∷◌, None, Option, sym, refl, ap, ◌∙◌, ⊎_elim}
-use Rattle.std.proofs.lemmas.Bool.{cases_eq, cond_both, cond-false, and_right, eq-eqb, ne_eqb}
+use Rattle.std.proofs.Common.{◌≡◌, ℕ, Bool, cond, ◌&&◌, eqb, List, [], ◌∷◌, None, Option, refl, ap, ◌∙◌}
+use Rattle.std.proofs.lemmas.Bool.{cond_both, cond-false, and_right, ne_eqb}
 use Rattle.measures.specs.declared.price.Price.{Price}
 use Rattle.pricing.specs.Changes.{Change}
 use Rattle.price_changes.specs.Changed.{overlaid}
@@ -11,13 +11,6 @@ Shown = ℕ → Option Price
 
 abbrev pub none : Change → Option Price
 none c = None
-
-pub flip : (x y : ℕ) → eqb x y ≡ eqb y x
-flip x y =
-    ⊎_elim
-    (λ e. eq-eqb x y e ∙ sym (eq-eqb y x (sym e)))
-    (λ ne. ne_eqb x y ne ∙ sym (ne_eqb y x (λ e. ne (sym e))))
-    (cases_eq x y)
 
 module _ (picked : Change → Bool) (told : Change → Option Price) (r : ℕ) where
   pub overlaid_off : (f : Shown) (cs : List Change) → Off r cs → overlaid picked told f cs r ≡ f r

@@ -3,6 +3,7 @@ use Rattle.std.proofs.Common.{◌≡◌, ℕ, ◌+◌, ◌<◌, ◌≤◌, Bool,
 use Rattle.std.specs.Map.{update}
 use Rattle.std.proofs.lemmas.Map.{update_here, update_apart}
 use Rattle.std.proofs.lemmas.Bool.{false≢true, cases_Bool, cond_both, cond-true, cond-false, eq-eqb, eqb-true, and_from, and_left, and_right, or_right}
+use Rattle.std.proofs.lemmas.Cmp.{nat_eq_equiv}
 use Rattle.measures.specs.declared.price.Price.{Price}
 use Rattle.price_history.specs.Keys.{span}
 use Rattle.price_history.specs.Views.{View, tallied}
@@ -15,7 +16,7 @@ use Rattle.price_changes.specs.Counts.{struck_count, entered_count}
 use Rattle.price_changes.specs.Steps.{strike_one, strikes, enter_at, enters}
 use Rattle.price_changes.proofs.Apart.{Off, Apart}
 use Rattle.price_changes.proofs.Counted.{cleared_count}
-use Rattle.price_changes.proofs.Overlay.{Shown, none, flip, overlaid_off, overlaid_like, none_stays}
+use Rattle.price_changes.proofs.Overlay.{Shown, none, overlaid_off, overlaid_like, none_stays}
 
 abbrev cleared : Shown → List Change → Shown
 cleared = overlaid touched none
@@ -28,7 +29,7 @@ added = overlaid fresh (λ c. c.new)
 
 -- a strike leaves nothing at its rank, whether or not a price was there
 struck_shown : (v : View) (k q : ℕ) (o : Option Price) → v.shown k ≡ o → (cond (is_ok (strike_of o)) (with_price v k None) v).shown q ≡ cond (eqb q k) None (v.shown q)
-struck_shown v k q (Some p) e = ap (λ b. cond b None (v.shown q)) (flip k q)
+struck_shown v k q (Some p) e = ap (λ b. cond b None (v.shown q)) (nat_eq_equiv.symm k q)
 struck_shown v k q None e = cond_both (eqb q k) None (v.shown q) (λ o. v.shown q ≡ o) (λ same. ap v.shown (eqb-true q k same) ∙ e) (λ _. refl)
 
 struck_limit : (v : View) (k : ℕ) (o : Option Price) → (cond (is_ok (strike_of o)) (with_price v k None) v).limit ≡ v.limit
@@ -81,7 +82,7 @@ entered_first v u k old p cs off after = record {
       ap (added (update eqb v.shown k (Some p)) cs) is
       ∙ overlaid_off fresh (λ c. c.new) k (update eqb v.shown k (Some p)) cs off
       ∙ update_here v.shown k (Some p))
-      (λ other. overlaid_like fresh (λ c. c.new) r (update eqb v.shown k (Some p)) v.shown cs (cond-false (eqb k r) (Some p) (v.shown r) (flip k r ∙ other)));
+      (λ other. overlaid_like fresh (λ c. c.new) r (update eqb v.shown k (Some p)) v.shown cs (cond-false (eqb k r) (Some p) (v.shown r) (nat_eq_equiv.symm k r ∙ other)));
   limit = after.limit;
 }
 

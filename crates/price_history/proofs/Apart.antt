@@ -1,8 +1,9 @@
 -- No two keys share a rank.
-use Rattle.std.proofs.Common.{◌≡◌, ℕ, ◌+◌, ◌-◌, ◌*◌, ◌/◌, ◌%◌, ◌<◌, ◌≤◌, sym, refl, ap, ◌∙◌, arith}
+use Rattle.std.proofs.Common.{◌≡◌, ℕ, ◌+◌, ◌-◌, ◌*◌, ◌<◌, ◌≤◌, sym, refl, ap, ◌∙◌, arith}
 use mathlib.Core.HLevel.{is_prop→PathP}
 use native.Mathlib.Bridge.{le_prop}
-use lib.Arith.{digits_lt, digits_div, digits_mod}
+use lib.Arith.{digits_lt}
+use Rattle.measures.proofs.Digits.{same_digits}
 use Rattle.price_history.specs.declared.key.PriceKey.{PriceKey}
 use Rattle.price_history.specs.declared.series.Series.{Series}
 use Rattle.price_history.specs.declared.series.Series.TheVariants.{MarginalUp, MarginalDown, LimitUp, LimitDown}
@@ -58,13 +59,6 @@ same_series LimitDown MarginalUp m n h k e = absurd (omega arith)
 same_series LimitDown MarginalDown m n h k e = absurd (omega arith)
 same_series LimitDown LimitUp m n h k e = absurd (omega arith)
 same_series LimitDown LimitDown m n h k e = refl
-
--- numbers of two digits that are equal have equal digits
-same_digits : (c q r p s : ℕ) → r < c → s < c → q * c + r ≡ p * c + s → (q ≡ p) × (r ≡ s)
-same_digits c q r p s h k e = (
-  sym (digits_div q h) ∙ ap (λ n. n / c) e ∙ digits_div p k,
-  sym (digits_mod q h) ∙ ap (λ n. n % c) e ∙ digits_mod p k,
-)
 
 rank_is : (x : PriceKey) → rank_of x ≡ first_of x.series + place x
 rank_is x = omega arith

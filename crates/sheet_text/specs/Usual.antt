@@ -1,4 +1,4 @@
--- More fields than a line has are refused alike, whether or not they are looked at.
+-- Fields in a number that no line of a sheet has are the same fault as no fields at all.
 use Rattle.std.specs.Prelude.{◌≡◌, ℕ, List, Result}
 use Rattle.std.proofs.Common.{rules}
 use Rattle.sheet_text.specs.declared.faults.LineFault.{LineFault}

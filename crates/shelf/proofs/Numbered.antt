@@ -1,8 +1,9 @@
 -- Each place has a number of its own.
-use Rattle.std.proofs.Common.{◌≡◌, ℕ, ◌+◌, ◌-◌, ◌*◌, ◌/◌, ◌%◌, ◌<◌, ◌≤◌, true, leb, sym, ap, ◌∙◌, arith}
-use lib.Arith.{digits_lt, digits_div, digits_mod}
+use Rattle.std.proofs.Common.{◌≡◌, ℕ, ◌+◌, ◌-◌, ◌*◌, ◌<◌, ◌≤◌, true, leb, arith}
+use lib.Arith.{digits_lt}
 use Rattle.std.proofs.lemmas.Bool.{and_parts, leb-true}
 use Rattle.measures.specs.Calendar.{between}
+use Rattle.measures.proofs.Digits.{same_digits}
 use Rattle.shelf.specs.Laws.{PlacesAreApart}
 use Rattle.shelf.specs.Places.{is_place, number_of}
 
@@ -26,12 +27,6 @@ placed days zones zone day period e =
     let first = and_parts (between 1 zones zone) _ e in
     let second = and_parts (between 1 days day) (between 1 24 period) first.1 in
     record { of_zone = between_true 1 zones zone first.0; of_day = between_true 1 days day second.0; of_period = between_true 1 24 period second.1 }
-
-same_digits : (c q r p s : ℕ) → r < c → s < c → q * c + r ≡ p * c + s → (q ≡ p) × (r ≡ s)
-same_digits c q r p s h k e = (
-  sym (digits_div q h) ∙ ap (λ n. n / c) e ∙ digits_div p k,
-  sym (digits_mod q h) ∙ ap (λ n. n % c) e ∙ digits_mod p k,
-)
 
 pub placed_below : (days zones zone day period : ℕ) → Placed days zones zone day period → number_of zones zone day period < days * zones * 24
 placed_below days zones zone day period p =

@@ -5,7 +5,7 @@ use Rattle.std.proofs.lemmas.List.{at_drop_more, flat_map_more, take_all, take-a
 use Rattle.std.proofs.lemmas.Bool.{false≢true, leb-false, le-leb, lt-leb}
 use Rattle.text_buffer.specs.Texts.{Puts}
 
--- at each exit of a function that puts up to seven parts: `search (needs, chained)`
+-- at each exit of a function that puts up to seven parts: `search (rules, chained)`
 pub ruleset chained = (append_assoc, length-append)
 
 joined_append : {X : Type 0} (text : X → List ℕ) (xs ys : List X) → flat_map text (xs ++ ys) ≡ flat_map text xs ++ flat_map text ys
