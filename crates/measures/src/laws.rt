@@ -1,8 +1,6 @@
 // What holds of the measures.
 ghost use Rattle.measures.specs.Rounding.{QuotientsAreRounded};
 
-pub fn quotients_are_rounded() -> u8
+pub fn quotients_are_rounded()
     ensures { QuotientsAreRounded }
-{
-    0
-}
+{}

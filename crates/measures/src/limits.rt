@@ -39,7 +39,7 @@ impl Price {
     pub fn new(kop: i64) -> Option<Price>
         ensures { result ≡ price_of kop }
     {
-        if kop >= -MOST_PRICE && kop <= MOST_PRICE {
+        if (-MOST_PRICE..=MOST_PRICE).contains(&kop) {
             Some(Price { kop: kop as i32 })
         } else {
             None
