@@ -10,6 +10,11 @@ between a b n = nat_le a n && nat_le n b
 abbrev pub decade_of : ℕ → Option Decade
 decade_of day = cond (between 1 10 day) (Some First) (cond (between 11 20 day) (Some Second) (cond (between 21 31 day) (Some Third) None))
 
+abbrev pub decade_number : Decade → ℕ
+decade_number First = 1
+decade_number Second = 2
+decade_number Third = 3
+
 abbrev pub one_decade : Option Decade → Option Decade → Bool
 one_decade None b = false
 one_decade (Some a) None = false

@@ -1,5 +1,6 @@
 -- Numbers that are measures where they are within the limits.
-use Rattle.std.specs.Prelude.{ℕ, ℤ, Some, None, Option, unsigned_abs}
+use Rattle.std.specs.Prelude.{ℕ, ℤ, pos, Some, None, Option, unsigned_abs}
+use Rattle.std.proofs.Common.{lit≤}
 use Rattle.std.proofs.Math.Decide.{dec_le}
 use Rattle.measures.specs.declared.volume.Volume.{Volume}
 use Rattle.measures.specs.declared.volume.PeriodVolume.{PeriodVolume}
@@ -18,3 +19,12 @@ period_volume_of n = where_kept (dec_le n 10000000) (λ kept. record { kwh = n; 
 
 abbrev pub price_of : ℤ → Option Price
 price_of z = where_kept (dec_le (unsigned_abs z) 10000000) (λ kept. record { kop = z; limited = kept })
+
+abbrev pub no_volume : Volume
+no_volume = record { kwh = 0; limited = lit≤ tt }
+
+abbrev pub no_period_volume : PeriodVolume
+no_period_volume = record { kwh = 0; limited = lit≤ tt }
+
+abbrev pub zero_price : Price
+zero_price = record { kop = pos 0; limited = lit≤ tt }

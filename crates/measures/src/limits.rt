@@ -1,6 +1,6 @@
 // Numbers taken as measures, where they are within the limits.
 ghost use Rattle.std.specs.Prelude.{◌≡◌};
-ghost use Rattle.measures.specs.Limits.{volume_of, period_volume_of, price_of};
+ghost use Rattle.measures.specs.Limits.{volume_of, period_volume_of, price_of, no_volume, no_period_volume, zero_price};
 
 use crate::price::Price;
 use crate::volume::{PeriodVolume, Volume};
@@ -23,6 +23,14 @@ impl Volume {
     }
 }
 
+impl Default for Volume {
+    ghost is_default = { λ x. x ≡ no_volume };
+
+    fn default() -> Volume {
+        Volume { kwh: 0 }
+    }
+}
+
 impl PeriodVolume {
     pub fn new(kwh: u32) -> Option<PeriodVolume>
         ensures { result ≡ period_volume_of kwh }
@@ -35,6 +43,14 @@ impl PeriodVolume {
     }
 }
 
+impl Default for PeriodVolume {
+    ghost is_default = { λ x. x ≡ no_period_volume };
+
+    fn default() -> PeriodVolume {
+        PeriodVolume { kwh: 0 }
+    }
+}
+
 impl Price {
     pub fn new(kop: i64) -> Option<Price>
         ensures { result ≡ price_of kop }
@@ -44,5 +60,13 @@ impl Price {
         } else {
             None
         }
+    }
+}
+
+impl Default for Price {
+    ghost is_default = { λ x. x ≡ zero_price };
+
+    fn default() -> Price {
+        Price { kop: 0 }
     }
 }

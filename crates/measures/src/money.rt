@@ -1,9 +1,22 @@
 // Money.
-ghost use Rattle.std.specs.Prelude.{◌≤◌, unsigned_abs};
+ghost use Rattle.std.specs.Prelude.{◌≡◌, ◌≤◌, neg_ℤ, unsigned_abs};
+
+use std::ops::Neg;
 
 // An amount of money, in thousandths of a kopeck: above zero a credit, below zero a debit.
 #[derive(Clone, Copy, Debug, PartialEq, Eq, PartialOrd, Ord)]
 pub struct Money {
     pub mkop: i64,
     ghost limited: { unsigned_abs mkop ≤ 1000000000000000000 },
+}
+
+// A credit turned into a debit of the same size, and a debit into a credit.
+impl Neg for Money {
+    type Output = Money;
+
+    ghost neg_gives = { λ money turned. turned.mkop ≡ neg_ℤ money.mkop };
+
+    fn neg(self) -> Money {
+        Money { mkop: -self.mkop }
+    }
 }

@@ -1,5 +1,5 @@
 // Volumes of electricity, by the span that they are for.
-ghost use Rattle.std.specs.Prelude.{◌≤◌};
+ghost use Rattle.std.specs.Prelude.{◌≡◌, ◌≤◌};
 
 // The volume of an offer in its quarter of an hour, or of a unit's or a group's line, in kWh.
 #[derive(Clone, Copy, Debug, PartialEq, Eq, PartialOrd, Ord)]
@@ -19,4 +19,13 @@ pub struct PeriodVolume {
 #[derive(Clone, Copy, Debug, PartialEq, Eq, PartialOrd, Ord)]
 pub struct VolumeSum {
     pub kwh: u32,
+}
+
+// The volume of one line alone.
+impl From<Volume> for VolumeSum {
+    ghost from_gives = { λ volume sum. sum.kwh ≡ volume.kwh };
+
+    fn from(volume: Volume) -> VolumeSum {
+        VolumeSum { kwh: volume.kwh }
+    }
 }
