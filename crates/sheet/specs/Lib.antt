@@ -1,3 +1,4 @@
 pub mod Listed
 pub mod Figures
 pub mod Sides
+pub mod Fillers

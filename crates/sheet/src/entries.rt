@@ -4,6 +4,7 @@ ghost use Rattle.std.specs.Prelude.{◌≡◌, length};
 use std::alloc::AllocError;
 
 // The first `len` of `items`. The count is plain data: past the places it stands for all of them.
+// Proofs about any sheet read the number of places in `full`: a list in a definition has no length of its own.
 #[derive(Copy)]
 pub struct Entries<T, const N: usize> {
     pub items: [T; N],
@@ -11,6 +12,7 @@ pub struct Entries<T, const N: usize> {
     ghost full: { length items ≡ N },
 }
 
+// Beside a ghost field Clone is not derived for a generic type.
 impl<T: Copy, const N: usize> Clone for Entries<T, N> {
     ghost is_clone = { λ a b. a ≡ b };
 

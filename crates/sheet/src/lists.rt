@@ -1,8 +1,12 @@
 // What can be done with a list of a fixed number of places.
-ghost use Rattle.std.specs.Prelude.{◌≡◌, ◌≤◌, [], ◌∷◌, ◌++◌, length, if◌then◌else◌, nat_lt};
+ghost use Rattle.std.specs.Prelude.{◌≡◌, ◌≤◌, [], ◌∷◌, ◌++◌, length, if◌then◌else◌, is_ok, nat_lt};
 ghost use Rattle.sheet.specs.Listed.{listed};
 
 use crate::entries::Entries;
+
+// A list has no place left for an entry.
+#[derive(Clone, Copy, Debug, PartialEq, Eq)]
+pub struct NoPlace;
 
 impl<T: Copy, const N: usize> Entries<T, N> {
     // No entry yet; the filler stands in the places, and counts for nothing.
@@ -19,21 +23,19 @@ impl<T: Copy, const N: usize> Entries<T, N> {
         ensures value { result.now ≡ listed self.now }
         ensures few { length result.now ≤ N }
     {
-        let all = &self.items[..];
-        let count = self.len.min(N);
-        &all[0..count]
+        &self.items[..self.len.min(N)]
     }
 
     // Puts an entry at the end. Where there is no place left, all stays as it is.
-    pub fn push(&mut self, item: T) -> bool
-        ensures room { result ≡ nat_lt (length (listed self.old)) N }
-        ensures after { listed self.new ≡ (if result then listed self.old ++ item ∷ [] else listed self.old) }
+    pub fn push(&mut self, item: T) -> Result<(), NoPlace>
+        ensures room { is_ok result ≡ nat_lt (length (listed self.old)) N }
+        ensures after { listed self.new ≡ (if is_ok result then listed self.old ++ item ∷ [] else listed self.old) }
     {
         if self.len >= N {
-            return false;
+            return Err(NoPlace);
         }
         self.items[self.len] = item;
         self.len += 1;
-        true
+        Ok(())
     }
 }
