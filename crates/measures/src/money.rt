@@ -1,7 +1,7 @@
 // Money.
-ghost use Rattle.std.specs.Prelude.{◌≡◌, ◌≤◌, neg_ℤ, unsigned_abs};
+ghost use Rattle.std.specs.Prelude.{◌≡◌, ◌≤◌, ◌-ℤ◌, neg_ℤ, unsigned_abs};
 
-use std::ops::Neg;
+use std::ops::{Neg, Sub};
 
 // An amount of money, in thousandths of a kopeck: above zero a credit, below zero a debit.
 #[derive(Clone, Copy, Debug, PartialEq, Eq, PartialOrd, Ord)]
@@ -18,5 +18,20 @@ impl Neg for Money {
 
     fn neg(self) -> Money {
         Money { mkop: -self.mkop }
+    }
+}
+
+// How much more one amount is than another, where that is within the limit of an amount.
+impl Sub for Money {
+    type Output = Money;
+
+    ghost can_sub = { λ money other. unsigned_abs (money.mkop -ℤ other.mkop) ≤ 1000000000000000000 };
+
+    ghost sub_gives = { λ money other rest. rest.mkop ≡ money.mkop -ℤ other.mkop };
+
+    fn sub(self, other: Money) -> Money {
+        Money {
+            mkop: self.mkop - other.mkop,
+        }
     }
 }
