@@ -1,23 +1,14 @@
--- Digits only make a number larger, and a sign changes no size.
-use Rattle.std.proofs.Common.{◌≡◌, ℕ, ◌+◌, ◌-◌, ◌*◌, ◌<◌, ◌≤◌, Bool, true, false, cond, leb, List, [], ◌∷◌, length, get_or, drop, Some, None, refl, ◌∙◌, arith, le-leb, leb-true, IfSome}
+-- Digits only make a number larger.
+use Rattle.std.proofs.Common.{◌≡◌, ℕ, ◌+◌, ◌-◌, ◌*◌, ◌<◌, ◌≤◌, Bool, true, false, cond, leb, List, [], ◌∷◌, length, get_or, drop, Some, None, refl, ◌∙◌, arith, le-leb}
 use borrow.Author.Tests.{lt-leb}
 use Rattle.std.proofs.lemmas.List.{at_drop_more}
 use Rattle.std.proofs.lemmas.Bool.{and_right}
-use Rattle.std.specs.Bool.{then_some}
 use Rattle.std.specs.Char.{is_ascii_digit}
 use Rattle.text.specs.Numbers.{digits_behind, within}
 
 module _ (a b : ℕ) where
   pub within_some : (n : ℕ) → a ≤ n → n ≤ b → within a b (Some n) ≡ Some n
   within_some n l m = let p = le-leb a n l in let q = le-leb n b m in rw (p, q)
-
-  tested : (n : ℕ) (t : Bool) → leb a n ≡ t → n ≤ b → (within a b (Some n) ≡ then_some t n) × IfSome (then_some t n) (λ n. (a ≤ n) × (n ≤ b))
-  tested n true e m = (within_some n (leb-true a n e) m, (leb-true a n e, m))
-  tested n false e m = (rw e, tt)
-
-  -- a number of at most b is tested against a
-  pub within_tested : (n : ℕ) → n ≤ b → (within a b (Some n) ≡ then_some (leb a n) n) × IfSome (then_some (leb a n) n) (λ n. (a ≤ n) × (n ≤ b))
-  within_tested n m = tested n (leb a n) refl m
 
   within_high : (n : ℕ) → b < n → within a b (Some n) ≡ None
   within_high n l = let p = and_right (leb a n) (leb n b) (lt-leb n b l) in rw p
@@ -32,8 +23,5 @@ module _ (a b : ℕ) where
   larger n (c ∷ cs) l = larger_step n c cs (is_ascii_digit c) (larger (n * 10 + (c - 48)) cs (omega arith))
 
 module _ (n : ℕ) (cs : List ℕ) (i : ℕ) (in_List : i < length cs) where
-  pub no_digit : is_ascii_digit (get_or cs i 0) ≡ false → digits_behind n (drop i cs) ≡ None
-  no_digit h = at_drop_more (digits_behind n) cs i 0 in_List ∙ rw h
-
   pub one_more : is_ascii_digit (get_or cs i 0) ≡ true → digits_behind n (drop i cs) ≡ digits_behind (n * 10 + (get_or cs i 0 - 48)) (drop (i + 1) cs)
   one_more h = at_drop_more (digits_behind n) cs i 0 in_List ∙ rw h
