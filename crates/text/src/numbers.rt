@@ -24,7 +24,6 @@ pub fn number_within(field: &[u8], least: u32, most: u32) -> Option<u32>
 }
 
 // The signed number that `field` writes, where it is at most `size` in size. There is no -0.
-#[tactic(auto, using(crate::proofs::Digits::minus))]
 pub fn signed_within(field: &[u8], size: u32) -> Option<i64>
     ensures value { result ≡ sized size (signed field.now) }
     ensures bound { IfSome result (λ z. unsigned_abs z ≤ size) }
