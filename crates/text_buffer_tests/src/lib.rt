@@ -8,9 +8,9 @@ mod tests {
     fn least() -> Result<TextBuffer<24>, NoRoom> {
         let mut text: TextBuffer<24> = TextBuffer::new();
         text.put(b"x=")?;
-        text.put_signed(-9_223_372_036_854_775_808)?;
-        text.put_number(0)?;
-        text.put_signed(0)?;
+        text.put_number(-9_223_372_036_854_775_808_i64)?;
+        text.put_number(0_u64)?;
+        text.put_number(0_i64)?;
         Ok(text)
     }
 
@@ -30,8 +30,8 @@ mod tests {
     #[test]
     fn what_does_not_fit_is_refused(rt: HostRuntime) {
         let mut text: TextBuffer<4> = TextBuffer::new();
-        let long = text.put_number(18_446_744_073_709_551_615).is_err();
-        let exact = text.put_signed(-999).is_ok();
+        let long = text.put_number(18_446_744_073_709_551_615_u64).is_err();
+        let exact = text.put_number(-999_i64).is_ok();
         let nothing = text.put(b"").is_ok();
         let one_more = text.put(b"1").is_err();
         assert!(rt; long && exact && nothing && one_more);
