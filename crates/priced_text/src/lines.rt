@@ -29,7 +29,7 @@ pub(crate) fn put_price(page: &mut Page, name: &[u8], price: Price) -> Result<()
     ensures { Puts 935 (price_line name.now price.kop) (written page.old) (written page.new) result }
 {
     page.put(name)?;
-    page.put_signed(price.kop as i64)?;
+    page.put_number(price.kop)?;
     page.put(b" kop/MWh\n")
 }
 
@@ -37,7 +37,7 @@ pub(crate) fn put_money(page: &mut Page, name: &[u8], money: Money) -> Result<()
     ensures { Puts 935 (money_line name.now money.mkop) (written page.old) (written page.new) result }
 {
     page.put(name)?;
-    page.put_signed(money.mkop)?;
+    page.put_number(money.mkop)?;
     page.put(b" mkop\n")
 }
 
@@ -45,16 +45,16 @@ pub(crate) fn put_count(page: &mut Page, name: &[u8], count: usize) -> Result<()
     ensures { Puts 935 (count_line name.now count) (written page.old) (written page.new) result }
 {
     page.put(name)?;
-    page.put_number(count as u64)?;
+    page.put_number(count)?;
     page.put(b"\n")
 }
 
 fn put_charge(page: &mut Page, number: u16, charge: Money) -> Result<(), NoRoom>
     ensures { Puts 935 (charge_line number charge.mkop) (written page.old) (written page.new) result }
 {
-    page.put_number(number as u64)?;
+    page.put_number(number)?;
     page.put(b" ")?;
-    page.put_signed(charge.mkop)?;
+    page.put_number(charge.mkop)?;
     page.put(b" mkop\n")
 }
 

@@ -14,16 +14,16 @@ fn put_number(line: &mut Line, fault: SheetFault) -> Result<(), NoRoom>
     ensures { Puts 64 (number_part fault) (written line.old) (written line.new) result }
 {
     line.put(b"REFUSED ")?;
-    line.put_number(fault.fault.kind.number() as u64)?;
+    line.put_number(fault.fault.kind.number())?;
     line.put(b" ")?;
-    line.put_number(fault.fault.line as u64)?;
+    line.put_number(fault.fault.line)?;
     line.put(b" ")
 }
 
 fn put_place(line: &mut Line, fault: SheetFault) -> Result<(), NoRoom>
     ensures { Puts 64 (place_part fault) (written line.old) (written line.new) result }
 {
-    line.put_number(fault.fault.field as u64)?;
+    line.put_number(fault.fault.field)?;
     line.put(b" ")?;
     line.put(fault.section.word().as_bytes())?;
     line.put(b"\n")

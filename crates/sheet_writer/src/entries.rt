@@ -58,9 +58,9 @@ impl EntryText for Offer {
 
     fn put_on(&self, page: &mut Page) -> Result<(), NoRoom> {
         put_start(page, self.quarter, direction_letter(self.direction))?;
-        page.put_number(self.unit as u64)?;
+        page.put_number(self.unit)?;
         page.put(b" ")?;
-        page.put_number(self.volume.kwh as u64)?;
+        page.put_number(self.volume.kwh)?;
         page.put(b" kWh ")?;
         put_terms(page, self.price, constraint_letter(self.constrained))
     }

@@ -17,11 +17,11 @@ pub(crate) fn put_period(page: &mut Page, place: Place) -> Result<(), NoRoom>
     ensures { Puts 6556 (line (period_fields place.zone place.day place.period)) (written page.old) (written page.new) result }
 {
     page.put(b"PERIOD ")?;
-    page.put_number(place.zone as u64)?;
+    page.put_number(place.zone)?;
     page.put(b" ")?;
-    page.put_number(place.day as u64)?;
+    page.put_number(place.day)?;
     page.put(b" ")?;
-    page.put_number(place.period as u64)?;
+    page.put_number(place.period)?;
     page.put(b"\n")
 }
 
@@ -29,7 +29,7 @@ pub(crate) fn put_period(page: &mut Page, place: Place) -> Result<(), NoRoom>
 pub(crate) fn put_price(page: &mut Page, price: Price) -> Result<(), NoRoom>
     ensures { Puts 6556 (spaced (signed_decimal price.kop ∷ codes "kop/MWh" ∷ [])) (written page.old) (written page.new) result }
 {
-    page.put_signed(price.kop as i64)?;
+    page.put_number(price.kop)?;
     page.put(b" kop/MWh")
 }
 
@@ -47,7 +47,7 @@ pub(crate) fn put_forced(page: &mut Page, volume: PeriodVolume) -> Result<(), No
     ensures { Puts 6556 (line (forced_fields volume)) (written page.old) (written page.new) result }
 {
     page.put(b"FORCED ")?;
-    page.put_number(volume.kwh as u64)?;
+    page.put_number(volume.kwh)?;
     page.put(b" kWh H\n")
 }
 
@@ -55,7 +55,7 @@ pub(crate) fn put_forced(page: &mut Page, volume: PeriodVolume) -> Result<(), No
 pub(crate) fn put_start(page: &mut Page, number: u16, letter: &[u8]) -> Result<(), NoRoom>
     ensures { Puts 6556 (decimal number ++ (codes " " ++ (letter.now ++ codes " "))) (written page.old) (written page.new) result }
 {
-    page.put_number(number as u64)?;
+    page.put_number(number)?;
     page.put(b" ")?;
     page.put(letter)?;
     page.put(b" ")
@@ -71,6 +71,6 @@ pub(crate) fn put_volume(
     ensures { Puts 6556 (line (decimal number ∷ letter.now ∷ decimal volume.kwh ∷ codes "kWh" ∷ [])) (written page.old) (written page.new) result }
 {
     put_start(page, number, letter)?;
-    page.put_number(volume.kwh as u64)?;
+    page.put_number(volume.kwh)?;
     page.put(b" kWh\n")
 }

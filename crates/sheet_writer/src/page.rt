@@ -25,7 +25,7 @@ fn put_count(page: &mut Page, keyword: &[u8], count: usize) -> Result<(), NoRoom
 {
     page.put(keyword)?;
     page.put(b" ")?;
-    page.put_number(count as u64)?;
+    page.put_number(count)?;
     page.put(b"\n")
 }
 
