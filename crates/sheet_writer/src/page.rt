@@ -43,6 +43,7 @@ fn put_list<L: EntryText>(page: &mut Page, keyword: &[u8], entries: &[L]) -> Res
     put_entries(page, entries)
 }
 
+#[tactic(auto, unfolding(crate::specs::Rendered::rendered))]
 pub(crate) fn put_sheet(page: &mut Page, place: Place, sheet: &Sheet) -> Result<(), NoRoom>
     ensures { IsPut (text_of_sheet place sheet.now) page.old page.new result }
 {
