@@ -1,7 +1,7 @@
 // The line that is printed of a text that is no sheet.
 ghost use Rattle.std.specs.Prelude.{◌≡◌, length, if◌then◌else◌, Some, None, nat_le};
 ghost use Rattle.std.specs.Result.{result_ok};
-ghost use Rattle.text_buffer.specs.Texts.{written, Puts, placed};
+ghost use Rattle.text_buffer.specs.Texts.{IsPut, placed};
 ghost use Rattle.priced_text.specs.Refusals.{line_of_refusal, number_part, place_part};
 
 use sheet_text::faults::SheetFault;
@@ -11,26 +11,26 @@ use text_buffer::buffer::{NoRoom, TextBuffer};
 type Line = TextBuffer<64>;
 
 fn put_number(line: &mut Line, fault: SheetFault) -> Result<(), NoRoom>
-    ensures { Puts 64 (number_part fault) (written line.old) (written line.new) result }
+    ensures { IsPut (number_part fault) line.old line.new result }
 {
     line.put(b"REFUSED ")?;
-    line.put_number(fault.fault.kind.number() as u64)?;
+    line.put_number(fault.fault.kind.number())?;
     line.put(b" ")?;
-    line.put_number(fault.fault.line as u64)?;
+    line.put_number(fault.fault.line)?;
     line.put(b" ")
 }
 
 fn put_place(line: &mut Line, fault: SheetFault) -> Result<(), NoRoom>
-    ensures { Puts 64 (place_part fault) (written line.old) (written line.new) result }
+    ensures { IsPut (place_part fault) line.old line.new result }
 {
-    line.put_number(fault.fault.field as u64)?;
+    line.put_number(fault.fault.field)?;
     line.put(b" ")?;
     line.put(fault.section.word().as_bytes())?;
     line.put(b"\n")
 }
 
 fn put_refusal(line: &mut Line, fault: SheetFault) -> Result<(), NoRoom>
-    ensures { Puts 64 (line_of_refusal fault) (written line.old) (written line.new) result }
+    ensures { IsPut (line_of_refusal fault) line.old line.new result }
 {
     put_number(line, fault)?;
     put_place(line, fault)

@@ -1,6 +1,5 @@
 -- A cut takes the first part of a text.
 use Rattle.std.proofs.Common.{◌≡◌, ℕ, zero, suc, ◌+◌, ◌-◌, ◌<◌, Bool, true, false, cond, eqb, List, [], ◌∷◌, ◌++◌, length, get_or, take, drop, Some, None, Option, refl, ap, ◌∙◌, add-one, arith, eq-eqb, ne_eqb, eqb-true}
-use native.Mathlib.Nat.{sub-zero}
 use Rattle.std.proofs.lemmas.List.{take_rest}
 use Rattle.text.specs.Cuts.{ahead, cut, onto, parts}
 
@@ -20,8 +19,8 @@ cut_some at (x ∷ xs) (suc i) l h e =
     rw (ne, rest)
 
 -- the first byte `at` stands at i
-pub cut_found : (at : ℕ) (xs : List ℕ) (i : ℕ) → i < length xs → ((k : ℕ) → k < i → get_or xs k 0 ≡ at → ⊥) → get_or xs i 0 ≡ at → cut at xs ≡ Some (take (i - 0) xs, take (length xs - (i + 1)) (drop (i + 1) xs))
-cut_found at xs i l h e = rw (take_rest, add-one, sub-zero) (cut_some at xs i l h e)
+pub cut_found : (at : ℕ) (xs : List ℕ) (i : ℕ) → i < length xs → ((k : ℕ) → k < i → get_or xs k 0 ≡ at → ⊥) → get_or xs i 0 ≡ at → cut at xs ≡ Some (take i xs, take (length xs - (i + 1)) (drop (i + 1) xs))
+cut_found at xs i l h e = rw (take_rest, add-one) (cut_some at xs i l h e)
 
 -- what a cut says of the text
 pub record Cut (at : ℕ) (xs : List ℕ) (p : List ℕ × List ℕ) : Type 0 where

@@ -6,10 +6,6 @@ ghost use Rattle.text.specs.Cuts.{cut};
 pub fn cut_at(text: &[u8], at: u8) -> Option<(&[u8], &[u8])>
     ensures { MatchOption result (cut at text.now ≡ None) (λ p. cut at text.now ≡ Some (p.0.now, p.1.now)) }
 {
-    for (i, byte) in text.iter().enumerate() {
-        if *byte == at {
-            return Some((&text[0..i], &text[i + 1..]));
-        }
-    }
-    None
+    let i = text.iter().position(|byte| *byte == at)?;
+    Some((&text[..i], &text[i + 1..]))
 }

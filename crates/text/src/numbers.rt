@@ -7,9 +7,8 @@ pub fn number_within(field: &[u8], least: u32, most: u32) -> Option<u32>
     ensures value { result ≡ within least most (number field.now) }
     ensures bounds { IfSome result (λ n. (least ≤ n) × (n ≤ most)) }
 {
-    match field {
-        [] | [b'0', _, ..] => return None,
-        _ => {}
+    if matches!(field, [] | [b'0', _, ..]) {
+        return None;
     }
     let mut n: u64 = 0;
     for byte in field {
@@ -21,10 +20,7 @@ pub fn number_within(field: &[u8], least: u32, most: u32) -> Option<u32>
             return None;
         }
     }
-    if n < least as u64 {
-        return None;
-    }
-    Some(n as u32)
+    (n >= least as u64).then_some(n as u32)
 }
 
 // The signed number that `field` writes, where it is at most `size` in size. There is no -0.
@@ -33,13 +29,7 @@ pub fn signed_within(field: &[u8], size: u32) -> Option<i64>
     ensures bound { IfSome result (λ z. unsigned_abs z ≤ size) }
 {
     match field {
-        [b'-', digits @ ..] => {
-            let n = number_within(digits, 1, size)?;
-            Some(-(n as i64))
-        }
-        digits => {
-            let n = number_within(digits, 0, size)?;
-            Some(n as i64)
-        }
+        [b'-', digits @ ..] => number_within(digits, 1, size).map(|n| -(n as i64)),
+        digits => number_within(digits, 0, size).map(i64::from),
     }
 }

@@ -1,5 +1,4 @@
 pub mod Lengths
-pub mod Spelling
 pub mod Chained
 pub mod Joining
 pub mod Placing

@@ -1,15 +1,15 @@
 // Memory for text.
-ghost use Rattle.std.specs.Prelude.{◌≡◌, ◌≤◌, length};
+ghost use Rattle.std.specs.Prelude.{◌≤◌, length};
 
-// The text is the first `len` of the bytes.
+use arrayvec::ArrayVec;
+
+// The bytes of a text that is being written.
 #[derive(Drop)]
 pub struct TextBuffer<const N: usize> {
-    pub(crate) bytes: [u8; N],
-    pub(crate) len: usize,
-    ghost few: { len ≤ N },
-    ghost full: { length bytes ≡ N },
+    pub(crate) bytes: ArrayVec<u8, N>,
+    ghost within: { length bytes.items ≤ N },
 }
 
 // The text does not fit.
-#[derive(Clone, Copy, PartialEq)]
+#[derive(Clone, Copy, Debug, Eq, PartialEq)]
 pub struct NoRoom;

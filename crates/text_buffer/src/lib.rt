@@ -2,5 +2,4 @@
 #![tactic(auto)]
 
 pub mod buffer;
-pub mod numbers;
 pub mod writing;

@@ -1,33 +1,25 @@
 // Writing text, and handing it over.
-ghost use Rattle.std.specs.Prelude.{◌≡◌, ◌+◌, ◌<◌, [], ◌∷◌, ◌++◌, length, drop, is_ok, if◌then◌else◌, Some, None, nat_le};
+ghost use Rattle.std.specs.Prelude.{◌≡◌, ◌+◌, [], ◌++◌, length, drop, is_ok, if◌then◌else◌, Some, None, nat_le};
 ghost use Rattle.std.specs.Result.{result_ok};
-ghost use Rattle.text_buffer.specs.Texts.{written};
+ghost use Rattle.text_buffer.specs.Texts.{written, IsPut};
 
 use crate::buffer::{NoRoom, TextBuffer};
+use arrayvec::ArrayVec;
+use itoa::{Buffer, Integer};
 
 impl<const N: usize> TextBuffer<N> {
     pub fn new() -> TextBuffer<N>
         ensures { written result ≡ [] }
     {
         TextBuffer {
-            bytes: [0; N],
-            len: 0,
+            bytes: ArrayVec::new(),
         }
     }
 
     pub fn as_bytes(&self) -> &[u8]
         ensures { result.now ≡ written self.now }
     {
-        let all = &self.bytes[..];
-        &all[0..self.len]
-    }
-
-    fn push(&mut self, byte: u8)
-        requires { length (written self.old) < N }
-        ensures { written self.new ≡ written self.old ++ byte ∷ [] }
-    {
-        self.bytes[self.len] = byte;
-        self.len += 1;
+        self.bytes.as_slice()
     }
 
     // Puts a text at the end. Where it does not fit, all stays as it is.
@@ -35,13 +27,25 @@ impl<const N: usize> TextBuffer<N> {
         ensures fits { is_ok result ≡ nat_le (length (written self.old) + length text.now) N }
         ensures after { written self.new ≡ (if is_ok result then written self.old ++ text.now else written self.old) }
     {
-        if text.len() > N - self.len {
-            return Err(NoRoom);
-        }
-        for byte in text {
-            self.push(*byte);
-        }
-        Ok(())
+        self.bytes.try_extend_from_slice(text).map_err(|_| NoRoom)
+    }
+
+    // Puts a number in decimal at the end. Where it does not fit, all stays as it is.
+    pub fn put_number<I: Integer>(&mut self, n: I) -> Result<(), NoRoom>
+        ensures fits { is_ok result ≡ nat_le (length (written self.old) + length (I.text n)) N }
+        ensures after { written self.new ≡ (if is_ok result then written self.old ++ I.text n else written self.old) }
+    {
+        let mut digits = Buffer::new();
+        self.put(digits.format(n).as_bytes())
+    }
+
+    // Puts a label, a number in decimal and its unit. Where they do not fit, some of them may have been put.
+    pub fn put_figure<I: Integer>(&mut self, label: &[u8], n: I, unit: &[u8]) -> Result<(), NoRoom>
+        ensures { IsPut (label.now ++ (I.text n ++ unit.now)) self.old self.new result }
+    {
+        self.put(label)?;
+        self.put_number(n)?;
+        self.put(unit)
     }
 
     // Copies the text to the front of `out`, and says how long it is. Where it does not fit, `out`
@@ -51,11 +55,10 @@ impl<const N: usize> TextBuffer<N> {
         ensures after { out.new ≡ (if is_ok result then written self.now ++ drop (length (written self.now)) out.old else out.old) }
     {
         let text = self.as_bytes();
-        let count = text.len();
-        if out.len() < count {
+        if out.len() < text.len() {
             return Err(NoRoom);
         }
-        out[0..count].copy_from_slice(text);
-        Ok(count)
+        out[..text.len()].copy_from_slice(text);
+        Ok(text.len())
     }
 }
