@@ -3,6 +3,7 @@ use Rattle.std.proofs.Common.{◌≡◌, ℕ, ◌≤◌, is_some, Some, None, Op
 use native.Mathlib.Bridge.{le_prop}
 use native.Mathlib.Decide.{dec_le}
 use Rattle.std.proofs.lemmas.Bool.{true≢false}
+use Rattle.std.proofs.lemmas.Option.{same_Some}
 use Rattle.price_history.specs.declared.key.PriceKey.{PriceKey}
 use Rattle.price_history.specs.declared.series.Series.{Series}
 use Rattle.price_history.specs.Slots.{slots_of}
@@ -51,13 +52,10 @@ key_is k =
     ∙ within 1 121 k.day _ k.day_from k.day_to
     ∙ within 1 2 k.zone _ k.zone_from k.zone_to
 
-some_same : {A : Type 0} (x y : A) → Some x ≡ Some y → x ≡ y
-some_same x y e = cc
-
 pub key_parts : (k : PriceKey) (series : Series) (zone day slot : ℕ) → Some k ≡ key_of series zone day slot → (k.series ≡ series) × (k.zone ≡ zone) × (k.day ≡ day) × (k.slot ≡ slot)
 key_parts k series zone day slot is =
     made 1 2 zone _ k is (λ zone_from zone_to in-zone.
     made 1 121 day _ k in-zone (λ day_from day_to in-day.
     made 1 (slots_of series) slot _ k in-day (λ slot_from slot_to here.
-    let same = some_same k _ here in
+    let same = same_Some k _ here in
     (ap (λ x. x.series) same, ap (λ x. x.zone) same, ap (λ x. x.day) same, ap (λ x. x.slot) same))))
