@@ -3,9 +3,9 @@ use Rattle.std.proofs.Common.{◌≡◌, ℕ, ◌+◌, ◌-◌, eqb, is_ok, Some
 use mathlib.Core.Path.{fun_ext}
 use Rattle.std.specs.Map.{update}
 use Rattle.std.proofs.lemmas.Bool.{cond-true, cond-false, eq-eqb, ne_eqb}
-use Rattle.ordered_list.specs.declared.entry.Absent.{Absent}
 use Rattle.ordered_list.specs.declared.entry.EntryRefusal.{EntryRefusal}
 use Rattle.ordered_list.specs.declared.entry.EntryRefusal.TheVariants.{Present, Full}
+use Rattle.ordered_list.specs.declared.entry.StrikeRefusal.{StrikeRefusal}
 use Rattle.ordered_list.specs.Listings.{Listing, entry_to, entry_answer, entered, strike_answer, struck}
 
 module _ {V : Type 0} where
@@ -34,7 +34,7 @@ module _ {V : Type 0} where
         listing_path m (record { shown = update eqb l.shown rank (Some v); count = l.count + 1; places = l.places }) shown count places
         ∙ sym (cond-true (is_ok (entry_answer l rank)) _ l (ap is_ok (sym granted)))
 
-    pub not_struck : (e : Absent) → Err e ≡ strike_answer l rank → l ≡ struck l rank
+    pub not_struck : (e : StrikeRefusal) → Err e ≡ strike_answer l rank → l ≡ struck l rank
     not_struck e refused = sym (cond-false (is_ok (strike_answer l rank)) _ l (ap is_ok (sym refused)))
 
     pub is_struck : (m : Listing V) (v : V) → Ok v ≡ strike_answer l rank → ((q : ℕ) → m.shown q ≡ update eqb l.shown rank None q) → m.count ≡ l.count - 1 → m.places ≡ l.places → m ≡ struck l rank

@@ -2,7 +2,7 @@
 use Rattle.std.proofs.Common.{◌≡◌, ℕ, zero, suc, ◌+◌, ◌-◌, ◌<◌, ◌≤◌, Bool, true, false, cond, eqb, List, [], ◌∷◌, ◌++◌, map, length, get_or, take, drop, Some, None, refl, sym, ap, ◌∙◌, subst, ⊎_elim, arith}
 use Rattle.std.specs.Map.{update}
 use Rattle.std.specs.List.{insert, remove}
-use Rattle.std.proofs.lemmas.List.{take-map, drop-map, map-append}
+use Rattle.std.proofs.lemmas.List.{length-take, get_or-take, take-map, drop-map, map-append}
 use Rattle.std.proofs.lemmas.List.Edits.{length-insert, get_or-insert_below, get_or-insert_at, get_or-insert_above, length-remove, get_or-remove_below, get_or-remove_above}
 use Rattle.std.proofs.lemmas.Bool.{cases_eq, cases_lt, cases_order, cond-true, cond-false, eq-eqb, ne_eqb, eqb-true}
 use Rattle.std.proofs.lemmas.Cmp.{nat_eq_equiv}
@@ -135,3 +135,12 @@ module _ {V : Type 0} (es fs : List (Entry V)) (rank at : ℕ) where
     taken_out_shows q =
         ap (λ l. value_at l q) is
         ∙ removed_shows es rank at q (omega (arith, h.inside, length_ranks es)) h.is (λ k lt. here_alone (ranks es) rank at up h k (omega (arith, length_ranks es)))
+
+-- the first of entries that rise also rise
+pub fewer_rise : {V : Type 0} (es : List (Entry V)) (m n : ℕ) → m ≤ n → Rising (ranks (take n es)) → Rising (ranks (take m es))
+fewer_rise es m n le up x y lt inside =
+    let ks = ranks es in
+    let size : length (ranks (take m es)) ≤ length (ranks (take n es)) = omega (arith, length_ranks (take m es), length_ranks (take n es), length-take m es, length-take n es) in
+    let bound : y < m = omega (arith, length_ranks (take m es), length-take m es) in
+    let read : (l k : ℕ) → k < l → get_or (ranks (take l es)) k 0 ≡ get_or ks k 0 = λ l k below. ap (λ (zs : List ℕ). get_or zs k 0) (sym (take-map (λ e. e.rank) l es)) ∙ get_or-take l ks k 0 below in
+    omega (arith, read m x (omega arith), read m y bound, read n x (omega arith), read n y (omega arith), up x y lt (omega arith))

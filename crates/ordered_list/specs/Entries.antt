@@ -7,9 +7,6 @@ module _ {V : Type 0} where
   abbrev pub ranks : List (Entry V) → List ℕ
   ranks es = map (λ e. e.rank) es
 
-  abbrev pub values : List (Entry V) → List V
-  values es = map (λ e. e.value) es
-
   -- the value of the entry with a rank
   abbrev pub value_at : List (Entry V) → ℕ → Option V
   value_at es rank = lookup (nat_eq rank) (map (λ e. (e.rank, e.value)) es)

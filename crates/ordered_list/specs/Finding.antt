@@ -2,7 +2,6 @@
 use Rattle.std.specs.Prelude.{◌≡◌, ℕ, ◌<◌, ◌≤◌, List, length, Result, MatchResult, slice_index, slice_index_or}
 use Rattle.ordered_list.specs.declared.entry.Entry.{Entry}
 use Rattle.ordered_list.specs.Entries.{ranks}
-use Rattle.ordered_list.specs.Order.{Rising}
 
 -- the rank stands at a place
 pub record Here (ks : List ℕ) (rank at : ℕ) : Type 0 where
@@ -15,7 +14,5 @@ pub record Before (ks : List ℕ) (rank at : ℕ) : Type 0 where
   pub below : (k : ℕ) → k < at → slice_index ks k < rank
   pub above : (k : ℕ) → at ≤ k → k < length ks → rank < slice_index ks k
 
-pub record Found {V : Type 0} (es : List (Entry V)) (rank : ℕ) (r : Result ℕ ℕ) : Type 0 where
-  pub inside : MatchResult r (λ at. at < length es) (λ at. at ≤ length es)
-  -- where the ranks rise
-  pub place : Rising (ranks es) → MatchResult r (Here (ranks es) rank) (Before (ranks es) rank)
+abbrev pub Found : {V : Type 0} → List (Entry V) → ℕ → Result ℕ ℕ → Type 0
+Found es rank r = MatchResult r (Here (ranks es) rank) (Before (ranks es) rank)

@@ -1,13 +1,13 @@
 -- What a list shows, and how entering and striking change it.
 use Rattle.std.specs.Prelude.{ℕ, ◌+◌, ◌-◌, cond, List, length, take, is_ok, Some, None, Ok, Err, Option, Result, ◌==◌, nat_eq}
 use Rattle.std.specs.Map.{update}
-use Rattle.ordered_list.specs.declared.entry.Absent.{Absent}
 use Rattle.ordered_list.specs.declared.entry.Entry.{Entry}
 use Rattle.ordered_list.specs.declared.entry.EntryRefusal.{EntryRefusal}
 use Rattle.ordered_list.specs.declared.entry.EntryRefusal.TheVariants.{Present, Full}
+use Rattle.ordered_list.specs.declared.entry.StrikeRefusal.{StrikeRefusal}
+use Rattle.ordered_list.specs.declared.entry.StrikeRefusal.TheVariants.{Absent}
 use Rattle.ordered_list.specs.declared.list.OrderedList.{OrderedList}
-use Rattle.ordered_list.specs.Entries.{ranks, value_at}
-use Rattle.ordered_list.specs.Order.{Rising}
+use Rattle.ordered_list.specs.Entries.{value_at}
 
 -- the value at each rank or none, how many values there are, and how many there can be
 pub record Listing (V : Type 0) : Type 0 where
@@ -18,10 +18,6 @@ pub record Listing (V : Type 0) : Type 0 where
 module _ {V : Type 0} where
   abbrev pub entries : OrderedList V → List (Entry V)
   entries list = take list.count list.memory.now
-
-  -- the entries stand in the order of their ranks
-  abbrev pub Ordered : OrderedList V → Type 0
-  Ordered list = Rising (ranks (entries list))
 
   abbrev pub listing : OrderedList V → Listing V
   listing list = record { shown = value_at (entries list); count = length (entries list); places = length list.memory.now }
@@ -41,11 +37,11 @@ module _ {V : Type 0} where
   abbrev pub entered : Listing V → ℕ → V → Listing V
   entered l rank value = cond (is_ok (entry_answer l rank)) (record { shown = update nat_eq l.shown rank (Some value); count = l.count + 1; places = l.places }) l
 
-  abbrev pub strike_of : Option V → Result V Absent
+  abbrev pub strike_of : Option V → Result V StrikeRefusal
   strike_of (Some value) = Ok value
-  strike_of None = Err (record {})
+  strike_of None = Err Absent
 
-  abbrev pub strike_answer : Listing V → ℕ → Result V Absent
+  abbrev pub strike_answer : Listing V → ℕ → Result V StrikeRefusal
   strike_answer l rank = strike_of (l.shown rank)
 
   -- no value at the rank, and all else as it was; all as it was where it is refused

@@ -1,30 +1,6 @@
-// Searching among places, and shifting them.
+// Shifting the entries of places.
 ghost use Rattle.std.specs.Prelude.{◌≡◌, ◌+◌, ◌-◌, ◌<◌, ◌≤◌, length, take};
 ghost use Rattle.std.specs.List.{insert, remove};
-ghost use Rattle.ordered_list.specs.Finding.{Found};
-
-use crate::entry::Entry;
-
-// Where the rank stands, or would stand, among entries whose ranks rise.
-pub(crate) fn find<V>(entries: &[Entry<V>], rank: u32) -> Result<usize, usize>
-    ensures { Found entries.now rank result }
-{
-    let mut low = 0;
-    let mut high = entries.len();
-    while low < high {
-        let middle = low + (high - low) / 2;
-        let found = entries[middle].rank;
-        if found == rank {
-            return Ok(middle);
-        }
-        if found < rank {
-            low = middle + 1;
-        } else {
-            high = middle;
-        }
-    }
-    Err(low)
-}
 
 // Puts an entry at a place among the first `count`, and each later one a place on.
 pub(crate) fn insert_at<E: Copy>(places: &mut [E], count: usize, at: usize, entry: E)

@@ -1,8 +1,9 @@
 -- Each key is the key of its parts, and has the parts that it was made of.
-use Rattle.std.proofs.Common.{◌≡◌, ℕ, ◌≤◌, is_some, Some, Option, sym, ap, ◌∙◌}
+use Rattle.std.proofs.Common.{◌≡◌, ℕ, ◌≤◌, is_some, Some, None, Option, sym, refl, ap, ◌∙◌}
 use native.Mathlib.Bridge.{le_prop}
 use native.Mathlib.Decide.{dec_le}
 use Rattle.std.proofs.lemmas.Bool.{true≢false}
+use Rattle.std.proofs.lemmas.Option.{same_Some}
 use Rattle.price_history.specs.declared.key.PriceKey.{PriceKey}
 use Rattle.price_history.specs.declared.series.Series.{Series}
 use Rattle.price_history.specs.Slots.{slots_of}
@@ -28,19 +29,33 @@ module _ {A : Type 0} (a b n : ℕ) (make : a ≤ n → n ≤ b → Option A) wh
   made : {R : Type 0} (x : A) → Some x ≡ between a b n make → ((from : a ≤ n) (to : n ≤ b) → Some x ≡ make from to → R) → R
   made x is then = decided_to x (dec_le a n) (dec_le n b) is then
 
+  -- nothing is made of a number beyond the limits
+  decided_none : (d : Dec (a ≤ n)) (e : Dec (n ≤ b)) → ((from : a ≤ n) (to : n ≤ b) → None ≡ make from to) → None ≡ where_both d e make
+  decided_none (yes p) (yes q) none = none p q
+  decided_none (yes p) (no q) none = refl
+  decided_none (no p) (yes q) none = refl
+  decided_none (no p) (no q) none = refl
+
+  beyond : ((from : a ≤ n) (to : n ≤ b) → None ≡ make from to) → None ≡ between a b n make
+  beyond none = decided_none (dec_le a n) (dec_le n b) none
+
+-- parts of which one is beyond its limits are those of no key
+pub key_none : (series : Series) (zone day slot : ℕ) → (1 ≤ zone → zone ≤ 2 → 1 ≤ day → day ≤ 121 → 1 ≤ slot → slot ≤ slots_of series → ⊥) → None ≡ key_of series zone day slot
+key_none series zone day slot out =
+    beyond 1 2 zone _ (λ zone_from zone_to.
+    beyond 1 121 day _ (λ day_from day_to.
+    beyond 1 (slots_of series) slot _ (λ slot_from slot_to. absurd (out zone_from zone_to day_from day_to slot_from slot_to))))
+
 pub key_is : (k : PriceKey) → Some k ≡ key_of k.series k.zone k.day k.slot
 key_is k =
     within 1 (slots_of k.series) k.slot _ k.slot_from k.slot_to
     ∙ within 1 121 k.day _ k.day_from k.day_to
     ∙ within 1 2 k.zone _ k.zone_from k.zone_to
 
-some_same : {A : Type 0} (x y : A) → Some x ≡ Some y → x ≡ y
-some_same x y e = cc
-
 pub key_parts : (k : PriceKey) (series : Series) (zone day slot : ℕ) → Some k ≡ key_of series zone day slot → (k.series ≡ series) × (k.zone ≡ zone) × (k.day ≡ day) × (k.slot ≡ slot)
 key_parts k series zone day slot is =
     made 1 2 zone _ k is (λ zone_from zone_to in-zone.
     made 1 121 day _ k in-zone (λ day_from day_to in-day.
     made 1 (slots_of series) slot _ k in-day (λ slot_from slot_to here.
-    let same = some_same k _ here in
+    let same = same_Some k _ here in
     (ap (λ x. x.series) same, ap (λ x. x.zone) same, ap (λ x. x.day) same, ap (λ x. x.slot) same))))

@@ -6,7 +6,7 @@ use crate::history::PriceHistory;
 use crate::key::PriceKey;
 use measures::price::Price;
 
-#[derive(Clone, Copy)]
+#[derive(Clone, Copy, PartialEq, Eq)]
 pub struct EmptyHistory;
 
 impl PriceHistory for EmptyHistory {

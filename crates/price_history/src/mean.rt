@@ -20,7 +20,8 @@ struct Gathered {
     count: u64,
 }
 
-// The key of the same series, zone and slot on another day.
+// The key of the same series, zone and slot on another day. Each field is written, since `..key` is
+// refused for a type that holds its limits.
 fn on_day(key: PriceKey, day: u16) -> PriceKey
     requires { (1 ≤ day) × (day ≤ 121) }
     ensures { rank_of result ≡ rank_on key.series key.zone day key.slot }
@@ -41,11 +42,7 @@ fn gather_before<H: PriceHistory>(history: &H, key: PriceKey) -> Gathered
 {
     let mut total: i64 = 0;
     let mut count: u64 = 0;
-    let first = if key.day > DAYS_BACK {
-        key.day - DAYS_BACK
-    } else {
-        1
-    };
+    let first = key.day.saturating_sub(DAYS_BACK).max(1);
     for day in (first..key.day).rev() {
         if count == MOST_PRICES {
             break;

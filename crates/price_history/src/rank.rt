@@ -14,13 +14,13 @@ impl PriceKey {
     pub fn new(series: Series, zone: u16, day: u16, slot: u16) -> Option<PriceKey>
         ensures { result ≡ key_of series zone day slot }
     {
-        if zone < 1 || zone > ZONES {
+        if !(1..=ZONES).contains(&zone) {
             return None;
         }
-        if day < 1 || day > DAYS {
+        if !(1..=DAYS).contains(&day) {
             return None;
         }
-        if slot < 1 || slot > series.slots() {
+        if !(1..=series.slots()).contains(&slot) {
             return None;
         }
         Some(PriceKey {

@@ -41,13 +41,6 @@ module _ (places : ℕ) (memory : List (Option Price)) (rank : ℕ) where
     count_set below =
         omega (arith, tallied_same (kept_in places (set memory rank w)) (update eqb (kept_in places memory) rank w) span (λ q lt. kept_set q), tallied_update (kept_in places memory) rank w span below)
 
-pub kept_empty : (places : ℕ) (memory : List (Option Price)) → ((k : ℕ) → k < places → get_or memory k None ≡ None) → (rank : ℕ) → kept_in places memory rank ≡ None
-kept_empty places memory empty rank =
-    ⊎_elim
-    (λ lt. cond-true (ltb rank places) (get_or memory rank None) None (lt-ltb rank places lt) ∙ empty rank lt)
-    (λ le. kept_past places memory rank le)
-    (cases_lt rank places)
-
 -- a table after a place was written
 pub record Written (table : PriceTable) (rank : ℕ) (w : Option Price) : Type 0 where
   pub index : rank < length table.memory.now
@@ -76,6 +69,7 @@ module _ (table : PriceTable) (rank : ℕ) (below : rank < span) where
         kept = drop-set-lt table.places memory rank w inside;
       }
 
-pub none_from : (o : Option Price) → is_some o ≡ false → o ≡ None
+-- what is not some is none
+pub none_from : {A : Type 0} (o : Option A) → is_some o ≡ false → o ≡ None
 none_from None e = refl
 none_from (Some x) e = absurd (true≢false e)

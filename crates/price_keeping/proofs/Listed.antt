@@ -7,11 +7,11 @@ use Rattle.ordered_list.specs.Listings as list
 use Rattle.ordered_list.proofs.Told.{told, told_ok}
 use Rattle.price_history.specs.Keys.{span}
 use Rattle.price_history.proofs.Tallies.{one, tallied_update}
-use Rattle.price_keeping.specs.declared.refusal.KeepRefusal.TheVariants.{Full, Absent}
+use Rattle.price_keeping.specs.declared.refusal.KeepRefusal.TheVariants.{Full}
 use Rattle.price_keeping.specs.Changes.{with_price, entry_to, entry_answer, entered, strike_of, strike_answer, struck}
 use Rattle.price_keeping.specs.Counts.{Counted}
 use Rattle.price_keeping.specs.Lists.{view_of}
-use Rattle.price_keeping.specs.Refusals.{entry_told}
+use Rattle.price_keeping.specs.Refusals.{entry_told, strike_told}
 
 -- the answer of a list as that of a history
 told_cond : (b : Bool) → told {T = Unit {0}} entry_told (cond b (Err refusal.Full) (Ok tt)) ≡ cond b (Err Full) (Ok tt)
@@ -22,7 +22,7 @@ told_entry : (o : Option Price) (count places : ℕ) → told entry_told (list.e
 told_entry (Some _) count places = refl
 told_entry None count places = told_cond (eqb count places)
 
-told_strike : (o : Option Price) → told (λ _. Absent) (list.strike_of o) ≡ strike_of o
+told_strike : (o : Option Price) → told strike_told (list.strike_of o) ≡ strike_of o
 told_strike (Some _) = refl
 told_strike None = refl
 
@@ -48,13 +48,13 @@ module _ (l : list.Listing Price) (counted : Counted l) (rank : ℕ) where
       view_cond (is_ok (list.entry_answer l rank)) _ l
       ∙ ap (λ b. cond b (with_price (view_of l) rank (Some price)) (view_of l)) (sym (told_ok entry_told (list.entry_answer l rank)) ∙ ap is_ok entry_same)
 
-  pub strike_same : told (λ _. Absent) (list.strike_answer l rank) ≡ strike_answer (view_of l) rank
+  pub strike_same : told strike_told (list.strike_answer l rank) ≡ strike_answer (view_of l) rank
   strike_same = told_strike (l.shown rank)
 
   pub struck_same : view_of (list.struck l rank) ≡ struck (view_of l) rank
   struck_same =
       view_cond (is_ok (list.strike_answer l rank)) _ l
-      ∙ ap (λ b. cond b (with_price (view_of l) rank None) (view_of l)) (sym (told_ok (λ _. Absent) (list.strike_answer l rank)) ∙ ap is_ok strike_same)
+      ∙ ap (λ b. cond b (with_price (view_of l) rank None) (view_of l)) (sym (told_ok strike_told (list.strike_answer l rank)) ∙ ap is_ok strike_same)
 
   module _ (below : rank < span) where
     pub entered_counted : (price : Price) → Counted (list.entered l rank price)

@@ -1,10 +1,9 @@
 // The refusals of an ordered list as those of a history.
 ghost use Rattle.std.specs.Prelude.{◌≡◌};
-ghost use Rattle.price_keeping.specs.Refusals.{entry_told};
-ghost use Rattle.price_keeping.specs.declared.refusal.KeepRefusal.TheVariants.{Absent as gone};
+ghost use Rattle.price_keeping.specs.Refusals.{entry_told, strike_told};
 
 use crate::refusal::KeepRefusal;
-use ordered_list::entry::{Absent, EntryRefusal};
+use ordered_list::entry::{EntryRefusal, StrikeRefusal};
 
 impl From<EntryRefusal> for KeepRefusal {
     ghost from_gives = { λ e r. r ≡ entry_told e };
@@ -17,10 +16,12 @@ impl From<EntryRefusal> for KeepRefusal {
     }
 }
 
-impl From<Absent> for KeepRefusal {
-    ghost from_gives = { λ _ r. r ≡ gone };
+impl From<StrikeRefusal> for KeepRefusal {
+    ghost from_gives = { λ e r. r ≡ strike_told e };
 
-    fn from(_absent: Absent) -> KeepRefusal {
-        KeepRefusal::Absent
+    fn from(refusal: StrikeRefusal) -> KeepRefusal {
+        match refusal {
+            StrikeRefusal::Absent => KeepRefusal::Absent,
+        }
     }
 }

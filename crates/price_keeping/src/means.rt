@@ -8,7 +8,8 @@ use measures::price::Price;
 use price_history::key::PriceKey;
 use price_history::mean::mean_before;
 
-// What can be read from any history can be read from one that is kept.
+// The mean of a history for reading, of one that is kept: it is here to show that what is kept can be
+// read, and carries that promise.
 pub fn kept_mean<K: PriceKeeping>(history: &K, key: PriceKey) -> Option<Price>
     ensures { option_map (λ price. price.kop) result ≡ mean_before (K.PriceHistory.view history.now) key.series key.zone key.day key.slot }
 {

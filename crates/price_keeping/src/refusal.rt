@@ -2,7 +2,7 @@
 ghost use Rattle.std.specs.Prelude.{◌≡◌};
 ghost use Rattle.price_keeping.specs.Refusals.{keep_number, memory_number};
 
-#[derive(Clone, Copy, PartialEq)]
+#[derive(Clone, Copy, PartialEq, Eq, Debug)]
 pub enum KeepRefusal {
     // the key has a price
     Present,
@@ -12,9 +12,12 @@ pub enum KeepRefusal {
     Absent,
 }
 
-// The memory has too few places.
-#[derive(Clone, Copy, PartialEq)]
-pub struct MemoryShort;
+// Why memory is not taken for a table.
+#[derive(Clone, Copy, PartialEq, Eq, Debug)]
+pub enum MemoryRefusal {
+    // it has too few places
+    Short,
+}
 
 impl KeepRefusal {
     pub fn number(self) -> u8
@@ -28,10 +31,12 @@ impl KeepRefusal {
     }
 }
 
-impl MemoryShort {
+impl MemoryRefusal {
     pub fn number(self) -> u8
         ensures { result ≡ memory_number self }
     {
-        15
+        match self {
+            MemoryRefusal::Short => 15,
+        }
     }
 }

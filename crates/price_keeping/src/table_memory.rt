@@ -4,7 +4,7 @@ ghost use Rattle.price_keeping.specs.Changes.{fresh_view};
 ghost use Rattle.price_keeping.specs.Places.{places_over, kept_in, memory_answer};
 ghost use Rattle.price_keeping.specs.Tables.{table_view, beyond};
 
-use crate::refusal::MemoryShort;
+use crate::refusal::MemoryRefusal;
 use crate::table::PriceTable;
 use measures::price::Price;
 
@@ -22,18 +22,16 @@ fn clear(memory: &mut [Option<Price>], places: usize)
     ensures emptied { (rank : ℕ) → kept_in places memory.new rank ≡ None }
     ensures beyond { drop places memory.new ≡ drop places memory.old }
 {
-    for rank in 0..places {
-        memory[rank] = None;
-    }
+    memory[..places].fill(None);
 }
 
 impl<'a> PriceTable<'a> {
     // Whether the memory has a place for each key.
-    pub fn check_memory(memory: &[Option<Price>]) -> Result<(), MemoryShort>
+    pub fn check_memory(memory: &[Option<Price>]) -> Result<(), MemoryRefusal>
         ensures { result ≡ memory_answer (length memory.now) }
     {
         if memory.len() < PLACES {
-            return Err(MemoryShort);
+            return Err(MemoryRefusal::Short);
         }
         Ok(())
     }

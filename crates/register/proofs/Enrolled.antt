@@ -8,11 +8,10 @@ use Rattle.std.proofs.lemmas.Bool.{cases_eq, cond-true, le-leb, and_from, true�
 use Rattle.ordered_list.specs.declared.entry.EntryRefusal.TheVariants as list-refusal
 use Rattle.ordered_list.specs.Listings as list
 use Rattle.ordered_list.proofs.Told.{told, told_ok}
-use Rattle.register.specs.declared.party.Party.{Party}
 use Rattle.register.specs.declared.refusal.RegisterRefusal.TheVariants.{Limits, Full}
 use Rattle.register.specs.Limits.{is_unit, is_party}
 use Rattle.register.specs.Refusals.{entry_told}
-use Rattle.register.specs.Rolls.{Roll, roll_of, empty_roll, entry_to, register_answer, registered}
+use Rattle.register.specs.Rolls.{Party, Roll, roll_of, empty_roll, entry_to, register_answer, registered}
 
 abbrev number : Option Party → Option ℕ
 number o = option_map (λ p. p.number) o

@@ -3,11 +3,14 @@ use Rattle.std.specs.Prelude.{ℕ, ◌+◌, cond, ◌&&◌, is_ok, Some, None, O
 use Rattle.std.specs.Map.{update}
 use Rattle.std.specs.Option.{option_map}
 use Rattle.ordered_list.specs.Listings.{Listing, listing}
-use Rattle.register.specs.declared.party.Party.{Party}
+use Rattle.register.specs.declared.number.Number.{Number}
 use Rattle.register.specs.declared.refusal.RegisterRefusal.{RegisterRefusal}
 use Rattle.register.specs.declared.refusal.RegisterRefusal.TheVariants.{Limits, Present, Full}
 use Rattle.register.specs.declared.register.Register.{Register}
 use Rattle.register.specs.Limits.{is_unit, is_party}
+
+abbrev pub Party : Type 0
+Party = Number 64
 
 -- the party of each unit or none, how many units there are, and how many there can be
 pub record Roll : Type 0 where

@@ -3,9 +3,10 @@
 
 mod entry_refusal;
 mod limits;
+pub mod number;
+mod number_order;
 pub mod party;
 pub mod refusal;
 pub mod register;
 pub mod registering;
 mod unit;
-mod unit_order;

@@ -1,33 +1,18 @@
-// Numbers taken as units and parties, where they are within the limits.
+// Numbers that are taken where they are within their limits.
 ghost use Rattle.std.specs.Prelude.{◌≡◌, if◌then◌else◌, Some, None};
 ghost use Rattle.std.specs.Option.{option_map};
-ghost use Rattle.register.specs.Limits.{is_unit, is_party};
+ghost use Rattle.register.specs.Limits.{is_within};
 
-use crate::party::Party;
-use crate::unit::UnitNumber;
+use crate::number::Number;
 
-const MOST_UNITS: u16 = 999;
-
-const MOST_PARTIES: u16 = 64;
-
-impl UnitNumber {
-    pub(crate) fn new(number: u16) -> Option<UnitNumber>
-        ensures { option_map (λ unit. unit.number) result ≡ (if is_unit number then Some number else None) }
+impl<const MOST: u16> Number<MOST> {
+    pub(crate) fn new(number: u16) -> Option<Number<MOST>>
+        ensures { option_map (λ n. n.number) result ≡ (if is_within MOST number then Some number else None) }
     {
-        if number < 1 || number > MOST_UNITS {
-            return None;
+        if (1..=MOST).contains(&number) {
+            Some(Number { number })
+        } else {
+            None
         }
-        Some(UnitNumber { number })
-    }
-}
-
-impl Party {
-    pub(crate) fn new(number: u16) -> Option<Party>
-        ensures { option_map (λ party. party.number) result ≡ (if is_party number then Some number else None) }
-    {
-        if number < 1 || number > MOST_PARTIES {
-            return None;
-        }
-        Some(Party { number })
     }
 }

@@ -1,10 +1,5 @@
 // Parties.
-ghost use Rattle.std.specs.Prelude.{◌≤◌};
+use crate::number::Number;
 
 // The number of a party.
-#[derive(Clone, Copy)]
-pub struct Party {
-    pub number: u16,
-    ghost from: { 1 ≤ number },
-    ghost to: { number ≤ 64 },
-}
+pub type Party = Number<64>;

@@ -1,10 +1,5 @@
 // Units.
-ghost use Rattle.std.specs.Prelude.{◌≤◌};
+use crate::number::Number;
 
 // The number of a unit.
-#[derive(Clone, Copy)]
-pub(crate) struct UnitNumber {
-    pub(crate) number: u16,
-    ghost from: { 1 ≤ number },
-    ghost to: { number ≤ 999 },
-}
+pub(crate) type UnitNumber = Number<999>;

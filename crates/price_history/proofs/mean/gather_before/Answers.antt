@@ -3,17 +3,9 @@ use Rattle.std.proofs.Common.{◌≤◌, ap, ◌∙◌, arith}
 use borrow.Author.Differences.{ints}
 use Rattle.price_history.proofs.Gathering.{gather_start, gather_some, gather_none, gathered_full, gathered_back}
 use Rattle.price_history.proofs.mean.gather_before.Goals as goal
-use Rattle.price_history.proofs.mean.gather_before.Goals.{then-key-gt-DAYS_BACK, else-key-gt-DAYS_BACK}
 
 pub loop-day-init : goal.loop-day-init
-loop-day-init g c =
-    gather_start _ _ c.args.key.day
-    (elim c.if-key-gt-DAYS_BACK.branch [ then-key-gt-DAYS_BACK w ↦ omega (arith, w.first-is, w.if-key-gt-DAYS_BACK.true) | else-key-gt-DAYS_BACK w ↦ omega (arith, w.first-is, w.if-key-gt-DAYS_BACK.false) ])
-
-pub on_day-requires : goal.on_day-requires
-on_day-requires g c =
-    let from : 1 ≤ c.if-key-gt-DAYS_BACK.first = elim c.if-key-gt-DAYS_BACK.branch [ then-key-gt-DAYS_BACK w ↦ omega (arith, w.first-is, w.if-key-gt-DAYS_BACK.true) | else-key-gt-DAYS_BACK w ↦ omega (arith, w.first-is) ] in
-    (omega (arith, from), omega (arith, c.loop-day.auto.day, c.args.key.day_to))
+loop-day-init g c = gather_start _ _ c.args.key.day (omega arith)
 
 pub overflow_add-total : goal.overflow_add-total
 overflow_add-total g c =

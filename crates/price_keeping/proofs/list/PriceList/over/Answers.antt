@@ -8,7 +8,7 @@ use Rattle.price_keeping.specs.Lists.{view_of}
 use Rattle.price_keeping.proofs.list.PriceList.over.Goals as goal
 
 pub invariant_of-result : goal.invariant_of-result
-invariant_of-result c = record { ordered = c.over.ensures.ordered; counted = subst Counted (sym c.over.ensures.listing) (sym (tallied_none Price span)) }
+invariant_of-result c = record { counted = subst Counted (sym c.over.ensures) (sym (tallied_none Price span)) }
 
 pub returns : goal.returns
-returns c = ap view_of c.over.ensures.listing
+returns c = ap view_of c.over.ensures

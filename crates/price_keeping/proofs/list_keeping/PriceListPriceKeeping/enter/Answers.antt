@@ -14,10 +14,7 @@ use Rattle.price_keeping.proofs.list_keeping.PriceListPriceKeeping.enter.Goals a
 pub invariant_of-self : goal.invariant_of-self
 invariant_of-self c =
     let list = c.args.self.now in
-    record {
-      ordered = c.enter.ensures.ordered list.ordered;
-      counted = subst Counted (sym (c.enter.ensures.after list.ordered)) (entered_counted (listing list.prices) list.counted (rank_of c.args.key) (rank_below c.args.key) c.args.price);
-    }
+    record { counted = subst Counted (sym c.enter.ensures.after) (entered_counted (listing list.prices) list.counted (rank_of c.args.key) (rank_below c.args.key) c.args.price) }
 
 pub returns-in_err-enter : goal.returns-in_err-enter
 returns-in_err-enter c =
@@ -25,8 +22,8 @@ returns-in_err-enter c =
     let rank = rank_of c.args.key in
     let refused = err_from_is_err_and c.from_residual.result c.from_residual.ensures.1 in
     record {
-      answer = refused.1 ∙ ap Err refused.2 ∙ ap (told entry_told) (c.in_err-enter.ensures.answer list.ordered) ∙ entry_same (listing list.prices) list.counted rank;
-      after = ap view_of (c.enter.ensures.after list.ordered) ∙ entered_same (listing list.prices) list.counted rank c.args.price;
+      answer = refused.1 ∙ ap Err refused.2 ∙ ap (told entry_told) c.in_err-enter.ensures.answer ∙ entry_same (listing list.prices) list.counted rank;
+      after = ap view_of c.enter.ensures.after ∙ entered_same (listing list.prices) list.counted rank c.args.price;
     }
 
 pub returns : goal.returns
@@ -34,6 +31,6 @@ returns c =
     let list = c.args.self.now in
     let rank = rank_of c.args.key in
     record {
-      answer = ap (told entry_told) (c.in_ok-enter.ensures.answer list.ordered) ∙ entry_same (listing list.prices) list.counted rank;
-      after = ap view_of (c.enter.ensures.after list.ordered) ∙ entered_same (listing list.prices) list.counted rank c.args.price;
+      answer = ap (told entry_told) c.in_ok-enter.ensures.answer ∙ entry_same (listing list.prices) list.counted rank;
+      after = ap view_of c.enter.ensures.after ∙ entered_same (listing list.prices) list.counted rank c.args.price;
     }

@@ -5,4 +5,4 @@ use Rattle.register.proofs.Enrolled.{roll_empty}
 use Rattle.register.proofs.register.Register.over.Goals as goal
 
 pub returns : goal.returns
-returns c = ap roll_of c.over.ensures.listing ∙ roll_empty (length c.args.memory.now)
+returns c = ap roll_of c.over.ensures ∙ roll_empty (length c.args.memory.now)

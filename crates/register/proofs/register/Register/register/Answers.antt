@@ -21,7 +21,7 @@ answer : (c : After-enter) → told entry_told c.enter.result ≡ register_answe
 answer c =
     let register = c.args.self.now in
     let l = listing register.units in
-    ap (told entry_told) (c.enter.ensures.answer register.ordered)
+    ap (told entry_told) c.enter.ensures.answer
     ∙ ap (λ unit. told entry_told (entry_answer l unit)) (unit_taken c).1
     ∙ answer_same l c.args.unit c.in_ok-party.party (unit_taken c).0
     ∙ ap (register_answer (roll register) c.args.unit) (party_taken c).1
@@ -30,7 +30,7 @@ after : (c : After-enter) → roll_of (listing c.enter.new.self) ≡ registered 
 after c =
     let register = c.args.self.now in
     let l = listing register.units in
-    ap roll_of (c.enter.ensures.after register.ordered)
+    ap roll_of c.enter.ensures.after
     ∙ ap (λ unit. roll_of (entered l unit c.in_ok-party.party)) (unit_taken c).1
     ∙ registered_same l c.args.unit c.in_ok-party.party (unit_taken c).0
     ∙ ap (registered (roll register) c.args.unit) (party_taken c).1
