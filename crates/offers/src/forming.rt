@@ -2,7 +2,7 @@
 ghost use Rattle.std.specs.Prelude.{◌≡◌};
 ghost use Rattle.sheet.specs.Listed.{listed};
 ghost use Rattle.offers.specs.Volumes.{picks};
-ghost use Rattle.offers.specs.Forming.{unconstrained, outer_of, farther, outermost, forming, formed};
+ghost use Rattle.offers.specs.Forming.{unconstrained, outer, outermost, forming, formed};
 
 use crate::selection::Selection;
 use crate::span::{Span, State};
@@ -12,17 +12,14 @@ use sheet::lines::{Direction, Offer};
 use sheet::report::Sheet;
 
 // The outer of two prices: the higher one up, the lower one down.
-fn outer_of(direction: Direction, best: Option<Price>, price: Price) -> Option<Price>
-    ensures { result ≡ outer_of direction best price }
+fn outer(direction: Direction, best: Price, price: Price) -> Price
+    ensures { result ≡ outer direction best price }
 {
-    let Some(best) = best else {
-        return Some(price);
-    };
     let farther = match direction {
         Direction::Up => best.kop < price.kop,
         Direction::Down => price.kop < best.kop,
     };
-    Some(if farther { price } else { best })
+    if farther { price } else { best }
 }
 
 impl Selection {
@@ -37,10 +34,11 @@ impl Selection {
     fn outermost_price(self, offers: &[Offer]) -> Option<Price>
         ensures { result ≡ outermost self.direction (picks self.span self.direction) offers.now }
     {
-        offers.iter().filter(|offer| self.picks(offer)).fold(
-            None,
-            |best, offer| outer_of(self.direction, best, offer.price),
-        )
+        offers
+            .iter()
+            .filter(|offer| self.picks(offer))
+            .map(|offer| offer.price)
+            .reduce(|best, price| outer(self.direction, best, price))
     }
 
     fn forming_price(self, offers: &[Offer]) -> Option<Price>
