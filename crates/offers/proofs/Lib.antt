@@ -1,2 +1,2 @@
-pub mod Steps
+pub mod Chains
 pub mod Outermost

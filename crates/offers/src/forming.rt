@@ -2,77 +2,53 @@
 ghost use Rattle.std.specs.Prelude.{◌≡◌};
 ghost use Rattle.sheet.specs.Listed.{listed};
 ghost use Rattle.offers.specs.Volumes.{picks};
-ghost use Rattle.offers.specs.Forming.{free, unconstrained, outer_of, farther, outermost, forming, formed};
+ghost use Rattle.offers.specs.Forming.{unconstrained, outer, outermost, forming, formed};
 
+use crate::selection::Selection;
 use crate::span::{Span, State};
 use crate::states::zone_state;
 use measures::price::Price;
 use sheet::lines::{Direction, Offer};
 use sheet::report::Sheet;
 
-fn is_free(span: Span, direction: Direction, offer: &Offer) -> bool
-    ensures { result ≡ free (picks span direction) offer.now }
-{
-    span.picks(direction, offer) && !offer.constrained
-}
-
-fn is_unconstrained(offers: &[Offer], span: Span, direction: Direction) -> bool
-    ensures { result ≡ unconstrained (picks span direction) offers.now }
-{
-    for offer in offers {
-        if is_free(span, direction, offer) {
-            return true;
-        }
-    }
-    false
-}
-
 // The outer of two prices: the higher one up, the lower one down.
-fn outer_of(direction: Direction, best: Option<Price>, price: Price) -> Option<Price>
-    ensures { result ≡ outer_of direction best price }
+fn outer(direction: Direction, best: Price, price: Price) -> Price
+    ensures { result ≡ outer direction best price }
 {
-    let Some(best) = best else {
-        return Some(price);
-    };
     let farther = match direction {
         Direction::Up => best.kop < price.kop,
         Direction::Down => price.kop < best.kop,
     };
-    Some(if farther { price } else { best })
+    if farther { price } else { best }
 }
 
-fn farther_out(
-    span: Span,
-    direction: Direction,
-    best: Option<Price>,
-    offer: &Offer,
-) -> Option<Price>
-    ensures { result ≡ farther direction (picks span direction) best offer.now }
-{
-    if span.picks(direction, offer) {
-        outer_of(direction, best, offer.price)
-    } else {
-        best
+impl Selection {
+    fn is_unconstrained(self, offers: &[Offer]) -> bool
+        ensures { result ≡ unconstrained (picks self.span self.direction) offers.now }
+    {
+        offers
+            .iter()
+            .any(|offer| self.picks(offer) && !offer.constrained)
     }
-}
 
-fn outermost_price(offers: &[Offer], span: Span, direction: Direction) -> Option<Price>
-    ensures { result ≡ outermost direction (picks span direction) offers.now }
-{
-    let mut best = None;
-    for offer in offers {
-        best = farther_out(span, direction, best, offer);
+    fn outermost_price(self, offers: &[Offer]) -> Option<Price>
+        ensures { result ≡ outermost self.direction (picks self.span self.direction) offers.now }
+    {
+        offers
+            .iter()
+            .filter(|offer| self.picks(offer))
+            .map(|offer| offer.price)
+            .reduce(|best, price| outer(self.direction, best, price))
     }
-    best
-}
 
-fn forming_price(offers: &[Offer], span: Span, direction: Direction) -> Option<Price>
-    ensures { result ≡ forming span direction offers.now }
-{
-    if is_unconstrained(offers, span, direction) {
-        outermost_price(offers, span, direction)
-    } else {
-        None
+    fn forming_price(self, offers: &[Offer]) -> Option<Price>
+        ensures { result ≡ forming self.span self.direction offers.now }
+    {
+        if self.is_unconstrained(offers) {
+            self.outermost_price(offers)
+        } else {
+            None
+        }
     }
 }
 
@@ -80,9 +56,8 @@ fn forming_price(offers: &[Offer], span: Span, direction: Direction) -> Option<P
 pub fn formed_price(sheet: &Sheet, span: Span, direction: Direction) -> Option<Price>
     ensures { result ≡ formed span direction sheet.now.forced.kwh (listed sheet.now.offers) }
 {
-    let offers = sheet.offers.as_slice();
     match (span, zone_state(sheet, span)) {
         (Span::Quarter(_), State::Balanced) => None,
-        _ => forming_price(offers, span, direction),
+        _ => Selection { span, direction }.forming_price(sheet.offers.as_slice()),
     }
 }

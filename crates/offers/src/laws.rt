@@ -1,14 +1,10 @@
 // What holds of states and prices.
 ghost use Rattle.offers.specs.Laws.{StatesCompare, OutermostPricesAreOffered};
 
-pub fn states_compare() -> u8
+pub fn states_compare()
     ensures { StatesCompare }
-{
-    0
-}
+{}
 
-pub fn outermost_prices_are_offered() -> u8
+pub fn outermost_prices_are_offered()
     ensures { OutermostPricesAreOffered }
-{
-    0
-}
+{}

@@ -3,6 +3,7 @@
 
 pub mod forming;
 pub mod laws;
+mod selection;
 pub mod span;
 pub mod states;
 pub mod volumes;

@@ -7,16 +7,15 @@ use crate::span::{Span, State};
 use crate::volumes::offered_volume;
 use sheet::lines::Direction;
 use sheet::report::Sheet;
+use std::cmp::Ordering;
 
 fn weigh(up: u32, down: u32) -> State
     ensures { result ≡ weighed up down }
 {
-    if up > down {
-        State::Deficit
-    } else if up < down {
-        State::Surplus
-    } else {
-        State::Balanced
+    match up.cmp(&down) {
+        Ordering::Greater => State::Deficit,
+        Ordering::Less => State::Surplus,
+        Ordering::Equal => State::Balanced,
     }
 }
 

@@ -24,23 +24,14 @@ fn is_struck<H: PriceHistory>(history: &H, change: &PriceChange) -> bool
 pub(crate) fn count_struck<H: PriceHistory>(history: &H, changes: &[PriceChange]) -> usize
     ensures { result ≡ struck_count (H.PriceHistory.view history.now).shown (map plain changes.now) }
 {
-    let mut count: usize = 0;
-    for change in changes {
-        if is_struck(history, change) {
-            count += 1;
-        }
-    }
-    count
+    changes
+        .iter()
+        .filter(|change| is_struck(history, change))
+        .count()
 }
 
 pub(crate) fn count_entered(changes: &[PriceChange]) -> usize
     ensures { result ≡ entered_count (map plain changes.now) }
 {
-    let mut count: usize = 0;
-    for change in changes {
-        if change.new.is_some() {
-            count += 1;
-        }
-    }
-    count
+    changes.iter().filter(|change| change.new.is_some()).count()
 }

@@ -4,6 +4,7 @@ use Rattle.price_history.specs.Views.{View}
 use Rattle.sheet.specs.Figures.{Figures, figures_of}
 use Rattle.sheet.specs.declared.place.Place.{Place}
 use Rattle.sheet.specs.declared.report.Sheet.{Sheet}
+use Rattle.pricing.specs.declared.case.Case.{Case as Lent}
 
 pub record Case : Type 0 where
   pub view : View
@@ -14,3 +15,7 @@ pub record Case : Type 0 where
 
 abbrev pub case : View → Place → Sheet → Case
 case view place sheet = record { view = view; zone = place.zone; day = place.day; period = place.period; sheet = figures_of sheet }
+
+-- the case as it is lent, where a history shows its view
+abbrev pub case_of : {H : Type 0} → (H → View) → Lent H → Case
+case_of view c = case (view c.history.now) c.place c.sheet.now

@@ -1,5 +1,6 @@
 pub mod Cases
 pub mod Keys
+pub mod Kinds
 pub mod Prices
 pub mod Figures
 pub mod Entries

@@ -1,15 +1,12 @@
 // The formed prices that a sheet enters into a history.
 ghost use Rattle.std.specs.Prelude.{◌≡◌, map};
 ghost use Rattle.sheet.specs.Figures.{figures_of};
-ghost use Rattle.pricing.specs.Keys.{Within};
+ghost use Rattle.pricing.specs.Kinds.{span_of, direction_of};
 ghost use Rattle.pricing.specs.Entries.{ranked, formed_at, formed_prices};
 
-use crate::keys::key_for;
+use crate::kind::{KINDS, PriceKind};
 use measures::price::Price;
-use offers::forming::formed_price;
-use offers::span::Span;
 use price_history::key::PriceKey;
-use sheet::lines::Direction;
 use sheet::place::Place;
 use sheet::report::Sheet;
 
@@ -20,13 +17,12 @@ pub struct FormedPrice {
     pub price: Option<Price>,
 }
 
-fn formed_at(place: Place, sheet: &Sheet, span: Span, direction: Direction) -> FormedPrice
-    requires { Within span }
-    ensures { ranked result ≡ formed_at place.zone place.day place.period (figures_of sheet.now) span direction }
+fn formed_at(place: Place, sheet: &Sheet, kind: PriceKind) -> FormedPrice
+    ensures { ranked result ≡ formed_at place.zone place.day place.period (figures_of sheet.now) (span_of kind) (direction_of kind) }
 {
     FormedPrice {
-        key: key_for(place, span, direction),
-        price: formed_price(sheet, span, direction),
+        key: kind.key(place),
+        price: kind.formed_on(sheet),
     }
 }
 
@@ -34,16 +30,8 @@ fn formed_at(place: Place, sheet: &Sheet, span: Span, direction: Direction) -> F
 pub fn formed_prices_of(place: Place, sheet: &Sheet) -> [FormedPrice; 10]
     ensures { map ranked result ≡ formed_prices place.zone place.day place.period (figures_of sheet.now) }
 {
-    [
-        formed_at(place, sheet, Span::Quarter(1), Direction::Up),
-        formed_at(place, sheet, Span::Quarter(1), Direction::Down),
-        formed_at(place, sheet, Span::Quarter(2), Direction::Up),
-        formed_at(place, sheet, Span::Quarter(2), Direction::Down),
-        formed_at(place, sheet, Span::Quarter(3), Direction::Up),
-        formed_at(place, sheet, Span::Quarter(3), Direction::Down),
-        formed_at(place, sheet, Span::Quarter(4), Direction::Up),
-        formed_at(place, sheet, Span::Quarter(4), Direction::Down),
-        formed_at(place, sheet, Span::Period, Direction::Up),
-        formed_at(place, sheet, Span::Period, Direction::Down),
-    ]
+    let [u1, u2, u3, u4, d1, d2, d3, d4, up, down] = KINDS.map(|kind| formed_at(
+        place, sheet, kind,
+    ));
+    [u1, d1, u2, d2, u3, d3, u4, d4, up, down]
 }

@@ -1,55 +1,36 @@
 // Marginal prices of quarters and limit prices of periods.
-ghost use Rattle.std.specs.Prelude.{◌≡◌, ◌≤◌};
-ghost use Rattle.pricing.specs.Keys.{Within};
-ghost use Rattle.pricing.specs.Cases.{case};
+ghost use Rattle.std.specs.Prelude.{◌≡◌};
+ghost use Rattle.pricing.specs.Cases.{case_of};
+ghost use Rattle.pricing.specs.Kinds.{span_of, direction_of};
 ghost use Rattle.pricing.specs.Prices.{formed_or_substitute, marginal_price};
 
-use crate::keys::key_for;
+use crate::case::Case;
+use crate::kind::PriceKind;
+use crate::quarter::Quarter;
 use measures::price::Price;
-use offers::forming::formed_price;
 use offers::span::{Span, State};
 use offers::states::zone_state;
 use price_history::history::PriceHistory;
 use price_history::mean::mean_before;
 use sheet::lines::Direction;
-use sheet::place::Place;
-use sheet::report::Sheet;
 
-// The price that forms, or else its substitute.
-pub(crate) fn price_of<H: PriceHistory>(
-    history: &H,
-    place: Place,
-    sheet: &Sheet,
-    span: Span,
-    direction: Direction,
-) -> Price
-    requires { Within span }
-    ensures { result.kop ≡ formed_or_substitute span direction (case (H.PriceHistory.view history.now) place sheet.now) }
-{
-    if let Some(price) = formed_price(sheet, span, direction) {
-        return price;
+impl<'a, H: PriceHistory> Case<'a, H> {
+    // The price that forms, or else its substitute.
+    pub(crate) fn price(&self, kind: PriceKind) -> Price
+        ensures { result.kop ≡ formed_or_substitute (span_of kind) (direction_of kind) (case_of H.PriceHistory.view self.now) }
+    {
+        let key = kind.key(self.place);
+        kind.formed_on(self.sheet)
+            .or_else(|| mean_before(self.history, key))
+            .unwrap_or(self.sheet.day_ahead)
     }
-    match mean_before(history, key_for(place, span, direction)) {
-        Some(mean) => mean,
-        None => sheet.day_ahead,
-    }
-}
 
-// The marginal price of a quarter.
-pub(crate) fn marginal_price_of<H: PriceHistory>(
-    history: &H,
-    place: Place,
-    sheet: &Sheet,
-    quarter: u16,
-    direction: Direction,
-) -> Price
-    requires { (1 ≤ quarter) × (quarter ≤ 4) }
-    ensures { result.kop ≡ marginal_price direction (case (H.PriceHistory.view history.now) place sheet.now) quarter }
-{
-    match zone_state(sheet, Span::Quarter(quarter)) {
-        State::Balanced => sheet.day_ahead,
-        State::Deficit | State::Surplus => {
-            price_of(history, place, sheet, Span::Quarter(quarter), direction)
+    pub(crate) fn marginal_price(&self, quarter: Quarter, direction: Direction) -> Price
+        ensures { result.kop ≡ marginal_price direction (case_of H.PriceHistory.view self.now) quarter.number }
+    {
+        match zone_state(self.sheet, Span::Quarter(quarter.number)) {
+            State::Balanced => self.sheet.day_ahead,
+            State::Deficit | State::Surplus => self.price(PriceKind::Marginal(quarter, direction)),
         }
     }
 }

@@ -5,10 +5,11 @@ ghost use Rattle.measures.specs.Rounding.{quotient};
 ghost use Rattle.sheet.specs.Listed.{listed};
 ghost use Rattle.offers.specs.Volumes.{in_quarter, offered};
 ghost use Rattle.offers.specs.declared.span.Span.TheVariants.{Period};
-ghost use Rattle.pricing.specs.Cases.{case};
+ghost use Rattle.pricing.specs.Cases.{case_of};
 ghost use Rattle.pricing.specs.Prices.{worth, up_to, mean_price};
 
-use crate::marginal::marginal_price_of;
+use crate::case::Case;
+use crate::quarter::Quarter;
 use measures::money::Money;
 use measures::price::Price;
 use measures::rounding::rounded_quotient;
@@ -17,44 +18,6 @@ use offers::span::Span;
 use offers::volumes::offered_volume;
 use price_history::history::PriceHistory;
 use sheet::lines::Direction;
-use sheet::place::Place;
-use sheet::report::Sheet;
-
-// What the offers of a quarter come to at its marginal price, which is not looked for without an offer.
-fn worth_of<H: PriceHistory>(
-    history: &H,
-    place: Place,
-    sheet: &Sheet,
-    quarter: u16,
-    direction: Direction,
-) -> Money
-    requires { (1 ≤ quarter) × (quarter ≤ 4) }
-    ensures value { result.mkop ≡ worth direction (case (H.PriceHistory.view history.now) place sheet.now) quarter }
-    ensures bound { unsigned_abs result.mkop ≤ 10000000 * in_quarter quarter direction (listed sheet.now.offers) }
-    ensures small { unsigned_abs result.mkop ≤ 960000000000000 }
-{
-    let volume = offered_volume(sheet, Span::Quarter(quarter), direction);
-    if volume.kwh == 0 {
-        return Money { mkop: 0 };
-    }
-    marginal_price_of(history, place, sheet, quarter, direction).cost(volume)
-}
-
-fn sum_of_worths<H: PriceHistory>(
-    history: &H,
-    place: Place,
-    sheet: &Sheet,
-    direction: Direction,
-) -> i64
-    ensures value { result ≡ up_to 4 (worth direction (case (H.PriceHistory.view history.now) place sheet.now)) }
-    ensures bound { unsigned_abs result ≤ 10000000 * offered Period direction (listed sheet.now.offers) }
-{
-    let mut sum = 0;
-    for quarter in 1..=4 {
-        sum += worth_of(history, place, sheet, quarter, direction).mkop;
-    }
-    sum
-}
 
 // The size of a sum of worths, by the volume; none where there is no volume.
 fn mean_size(worth: i64, volume: VolumeSum) -> Option<Price>
@@ -64,19 +27,38 @@ fn mean_size(worth: i64, volume: VolumeSum) -> Option<Price>
     Price::new(rounded_quotient(worth.abs(), volume.kwh as u64)?)
 }
 
-// The mean marginal price of a period.
-pub(crate) fn mean_price_of<H: PriceHistory>(
-    history: &H,
-    place: Place,
-    sheet: &Sheet,
-    direction: Direction,
-) -> Price
-    ensures { result.kop ≡ mean_price direction (case (H.PriceHistory.view history.now) place sheet.now) }
-{
-    let worth = sum_of_worths(history, place, sheet, direction);
-    let volume = offered_volume(sheet, Span::Period, direction);
-    match mean_size(worth, volume) {
-        Some(mean) => mean,
-        None => sheet.day_ahead,
+impl<'a, H: PriceHistory> Case<'a, H> {
+    // What the offers of a quarter come to at its marginal price, which is not looked for without an offer.
+    fn worth(&self, quarter: Quarter, direction: Direction) -> Money
+        ensures value { result.mkop ≡ worth direction (case_of H.PriceHistory.view self.now) quarter.number }
+        ensures bound { unsigned_abs result.mkop ≤ 10000000 * in_quarter quarter.number direction (listed self.now.sheet.now.offers) }
+        ensures small { unsigned_abs result.mkop ≤ 960000000000000 }
+    {
+        let volume = offered_volume(self.sheet, Span::Quarter(quarter.number), direction);
+        if volume.kwh == 0 {
+            return Money { mkop: 0 };
+        }
+        self.marginal_price(quarter, direction).cost(volume)
+    }
+
+    // Not by `sum`: no bound on signed numbers passes through a chain.
+    fn sum_of_worths(&self, direction: Direction) -> i64
+        ensures value { result ≡ up_to 4 (worth direction (case_of H.PriceHistory.view self.now)) }
+        ensures bound { unsigned_abs result ≤ 10000000 * offered Period direction (listed self.now.sheet.now.offers) }
+    {
+        let mut sum = 0;
+        for number in 1..=4 {
+            sum += self.worth(Quarter { number }, direction).mkop;
+        }
+        sum
+    }
+
+    // The mean marginal price of a period.
+    pub(crate) fn mean_price(&self, direction: Direction) -> Price
+        ensures { result.kop ≡ mean_price direction (case_of H.PriceHistory.view self.now) }
+    {
+        let worth = self.sum_of_worths(direction);
+        let volume = offered_volume(self.sheet, Span::Period, direction);
+        mean_size(worth, volume).unwrap_or(self.sheet.day_ahead)
     }
 }
