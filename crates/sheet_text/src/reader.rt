@@ -9,7 +9,7 @@ ghost use Rattle.sheet_text.specs.declared.faults.Section.TheVariants as section
 use crate::cursor::Cursor;
 use crate::draft::Draft;
 use crate::faults::LineFault;
-use crate::raised::{EndFault, GroupsFault, HeadFault, OffersFault, UnitsFault};
+use crate::raised::{End, FaultIn, Groups, Head, Offers, Units};
 
 #[derive(Drop)]
 pub(crate) struct Reader<'a> {
@@ -43,9 +43,9 @@ impl<'a> Reader<'a> {
     }
 
     // The place, the day-ahead price and the forced reduction.
-    pub(crate) fn read_head(&mut self) -> Result<(), HeadFault>
+    pub(crate) fn read_head(&mut self) -> Result<(), FaultIn<Head>>
         requires { At self.old stages.Period 1 }
-        ensures { MatchResult result (λ _. Reaches self.old self.new stages.Offers 4) (λ e. outcome self.old ≡ Err (fault_in sections.Head e.0)) }
+        ensures { MatchResult result (λ _. Reaches self.old self.new stages.Offers 4) (λ e. outcome self.old ≡ Err (fault_in sections.Head e.fault)) }
     {
         self.take_line()?;
         self.take_line()?;
@@ -53,36 +53,36 @@ impl<'a> Reader<'a> {
         Ok(())
     }
 
-    pub(crate) fn read_offers(&mut self) -> Result<(), OffersFault>
+    pub(crate) fn read_offers(&mut self) -> Result<(), FaultIn<Offers>>
         requires { At self.old stages.Offers 4 }
-        ensures { MatchResult result (λ _. Reaches self.old self.new stages.Units 29) (λ e. outcome self.old ≡ Err (fault_in sections.Offers e.0)) }
+        ensures { MatchResult result (λ _. Reaches self.old self.new stages.Units 29) (λ e. outcome self.old ≡ Err (fault_in sections.Offers e.fault)) }
     {
         let count = self.take_line()?;
         self.draft.report.sheet.offers = self.cursor.next_entries(count)?;
         Ok(())
     }
 
-    pub(crate) fn read_units(&mut self) -> Result<(), UnitsFault>
+    pub(crate) fn read_units(&mut self) -> Result<(), FaultIn<Units>>
         requires { At self.old stages.Units 29 }
-        ensures { MatchResult result (λ _. Reaches self.old self.new stages.Groups 46) (λ e. outcome self.old ≡ Err (fault_in sections.Units e.0)) }
+        ensures { MatchResult result (λ _. Reaches self.old self.new stages.Groups 46) (λ e. outcome self.old ≡ Err (fault_in sections.Units e.fault)) }
     {
         let count = self.take_line()?;
         self.draft.report.sheet.units = self.cursor.next_entries(count)?;
         Ok(())
     }
 
-    pub(crate) fn read_groups(&mut self) -> Result<(), GroupsFault>
+    pub(crate) fn read_groups(&mut self) -> Result<(), FaultIn<Groups>>
         requires { At self.old stages.Groups 46 }
-        ensures { MatchResult result (λ _. Reaches self.old self.new stages.End 63) (λ e. outcome self.old ≡ Err (fault_in sections.Groups e.0)) }
+        ensures { MatchResult result (λ _. Reaches self.old self.new stages.End 63) (λ e. outcome self.old ≡ Err (fault_in sections.Groups e.fault)) }
     {
         let count = self.take_line()?;
         self.draft.report.sheet.groups = self.cursor.next_entries(count)?;
         Ok(())
     }
 
-    pub(crate) fn read_end(&mut self) -> Result<(), EndFault>
+    pub(crate) fn read_end(&mut self) -> Result<(), FaultIn<End>>
         requires { At self.old stages.End 63 }
-        ensures { MatchResult result (λ _. Reaches self.old self.new stages.Done 64) (λ e. outcome self.old ≡ Err (fault_in sections.End e.0)) }
+        ensures { MatchResult result (λ _. Reaches self.old self.new stages.Done 64) (λ e. outcome self.old ≡ Err (fault_in sections.End e.fault)) }
     {
         self.take_line()?;
         self.cursor.finish()?;
