@@ -48,12 +48,22 @@ module _ {A : Type 0} (f : ℕ → List (List ℕ) → Result A LineFault) (coun
     pub line_said : (x : A) → f l ws ≡ Ok x → a_line f s ≡ Ok (x, t)
     line_said x g = line_there ∙ ap (λ (r : Result A LineFault). then r (beside t)) g
 
-module _ {A : Type 0} (says : ℕ → ℕ → List (List ℕ) → Result A LineFault) (order : A → ℕ) (n i before : ℕ) (xs : List A) (s : Left) (more : i < n) where
-  entries_step : entries says order (n - i) before xs s ≡ then (a_line (says before) s) (λ x. entries says order (n - (i + 1)) (order x.0) (xs ++ x.0 ∷ []) x.1)
+module _ {A : Type 0} (says : ℕ → ℕ → List (List ℕ) → Result A LineFault) (order : A → ℕ) (counts : (before l : ℕ) (ws : List (List ℕ)) → says before l (usual ws) ≡ says before l ws)
+    (n i before : ℕ) (xs : List A) (s : Left) (more : i < n) where
+  abbrev onward : Result (A × Left) LineFault → Result (List A × Left) LineFault
+  onward r = then r (λ x. entries says order (n - (i + 1)) (order x.0) (xs ++ x.0 ∷ []) x.1)
+
+  entries_step : entries says order (n - i) before xs s ≡ onward (a_line (says before) s)
   entries_step = let one : n - i ≡ suc (n - (i + 1)) = omega arith in rw one
 
-  pub entries_stop : (e : LineFault) → a_line (says before) s ≡ Err e → entries says order (n - i) before xs s ≡ Err e
-  entries_stop e h = entries_step ∙ ap (λ (r : Result (A × Left) LineFault). then r (λ x. entries says order (n - (i + 1)) (order x.0) (xs ++ x.0 ∷ []) x.1)) h
+  -- a list ends at a line that is missing
+  pub entries_missing : (e : LineFault) → next_fields s ≡ Err e → entries says order (n - i) before xs s ≡ Err e
+  entries_missing e h = entries_step ∙ ap onward (line_missing (says before) (counts before) s e h)
 
-  pub entries_more : (x : A) (t : Left) → a_line (says before) s ≡ Ok (x, t) → entries says order (n - i) before xs s ≡ entries says order (n - (i + 1)) (order x) (xs ++ x ∷ []) t
-  entries_more x t h = entries_step ∙ ap (λ (r : Result (A × Left) LineFault). then r (λ x. entries says order (n - (i + 1)) (order x.0) (xs ++ x.0 ∷ []) x.1)) h
+  module _ (ws : List (List ℕ)) (t : Left) (h : next_fields s ≡ Ok (ws, t)) (l : ℕ) (is : l ≡ s.line) where
+    -- or at one that is wrong
+    pub entries_wrong : (e : LineFault) → says before l ws ≡ Err e → entries says order (n - i) before xs s ≡ Err e
+    entries_wrong e g = entries_step ∙ ap onward (line_wrong (says before) (counts before) s ws t h l is e g)
+
+    pub entries_more : (x : A) → says before l ws ≡ Ok x → entries says order (n - i) before xs s ≡ entries says order (n - (i + 1)) (order x) (xs ++ x ∷ []) t
+    entries_more x g = entries_step ∙ ap onward (line_said (says before) (counts before) s ws t h l is x g)
