@@ -14,7 +14,7 @@ pub ok_same : {A E : Type 0} {x y : A} → ◌≡◌ {A = Result A E} (Ok x) (Ok
 ok_same e = cc
 
 number_step : (s t : Left) (ws : List (List ℕ)) (o : Option (List ℕ × List ℕ)) → then (line_of s.line o) parted ≡ Ok (ws, t) → t.line ≡ s.line + 1
-number_step s t ws None e = let z : ◌≡◌ {A = ℕ} 0 1 = cc in absurd (omega arith)
+number_step s t ws None e = absurd (cc)
 number_step s t ws (Some p) e = let same = ok_same e in sym (ap (λ (q : List (List ℕ) × Left). q.1.line) same)
 
 -- the line behind the next one has the next number
