@@ -1,8 +1,9 @@
 -- A list is read entry by entry.
-use Rattle.std.proofs.Common.{◌≡◌, ℕ, suc, ◌+◌, ◌-◌, ◌<◌, List, [], ◌∷◌, ◌++◌, Some, None, Ok, Err, Option, Result, sym, refl, ap, ◌∙◌, arith}
-use Rattle.text.specs.Cuts.{cut, parts}
+use Rattle.std.proofs.Common.{◌≡◌, ℕ, suc, ◌+◌, ◌-◌, ◌<◌, List, [], ◌∷◌, ◌++◌, Ok, Err, Result, sym, refl, ap, ◌∙◌, arith}
+use Rattle.std.proofs.lemmas.Grind.{common_steps}
+use Rattle.text.specs.Cuts.{parts}
 use Rattle.sheet_text.specs.Listing.{usual}
-use Rattle.sheet_text.specs.Reading.{Left, then, line_of, next_line, a_line, entries}
+use Rattle.sheet_text.specs.Reading.{Left, then, next_line, a_line, entries}
 use Rattle.sheet_text.specs.Standing.{parted, next_fields}
 use Rattle.sheet_text.specs.declared.faults.LineFault.{LineFault}
 
@@ -13,13 +14,9 @@ beside t x = Ok (x, t)
 pub ok_same : {A E : Type 0} {x y : A} → ◌≡◌ {A = Result A E} (Ok x) (Ok y) → x ≡ y
 ok_same e = cc
 
-number_step : (s t : Left) (ws : List (List ℕ)) (o : Option (List ℕ × List ℕ)) → then (line_of s.line o) parted ≡ Ok (ws, t) → t.line ≡ s.line + 1
-number_step s t ws None e = absurd (cc)
-number_step s t ws (Some p) e = let same = ok_same e in sym (ap (λ (q : List (List ℕ) × Left). q.1.line) same)
-
 -- the line behind the next one has the next number
 pub next_number : (s t : Left) (ws : List (List ℕ)) → next_fields s ≡ Ok (ws, t) → t.line ≡ s.line + 1
-next_number s t ws e = number_step s t ws (cut 10 s.text) e
+next_number s t ws e = grind (arith, common_steps)
 
 module _ {A : Type 0} (f : ℕ → List (List ℕ) → Result A LineFault) (counts : (l : ℕ) (ws : List (List ℕ)) → f l (usual ws) ≡ f l ws) (s : Left) where
   line_step : (r : Result (List ℕ × Left) LineFault)
