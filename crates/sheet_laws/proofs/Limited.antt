@@ -3,6 +3,7 @@ use Rattle.std.proofs.Common.{◌≡◌, ℕ, zero, suc, ◌+◌, ◌<◌, ◌�
 use Prim.Native.String.{String}
 use Rattle.std.proofs.ByRecursion.{All-push}
 use Rattle.std.proofs.lemmas.List.{length_push}
+use Rattle.std.proofs.lemmas.Result.{IfOk-weaker}
 use Rattle.std.specs.List.{AllByRecursion}
 use Rattle.measures.specs.declared.price.Price.{Price}
 use Rattle.measures.specs.declared.volume.PeriodVolume.{PeriodVolume}
@@ -23,18 +24,17 @@ use Rattle.sheet_text.proofs.Entering.{beside}
 use Rattle.sheet_laws.proofs.LineFacts.{Says, PlaceWithin, period_fact, day_ahead_fact, forced_fact, count_fact, offer_fact, unit_fact, group_fact}
 
 -- where something is read, it is P
-abbrev Gives : {A E : Type 0} → (A → Type 0) → Result A E → Type 0
+abbrev pub Gives : {A E : Type 0} → (A → Type 0) → Result A E → Type 0
 Gives P r = IfOk r P
 
-gives_then : {A B E : Type 0} (P : A → Type 0) (Q : B → Type 0) (r : Result A E) (k : A → Result B E) → Gives P r → ((x : A) → P x → Gives Q (k x)) → Gives Q (then r k)
+pub gives_then : {A B E : Type 0} (P : A → Type 0) (Q : B → Type 0) (r : Result A E) (k : A → Result B E) → Gives P r → ((x : A) → P x → Gives Q (k x)) → Gives Q (then r k)
 gives_then P Q (Ok x) k h g = g x h
 gives_then P Q (Err e) k h g = tt
 
-gives_weaker : {A E : Type 0} (P Q : A → Type 0) (r : Result A E) → Gives P r → ((x : A) → P x → Q x) → Gives Q r
-gives_weaker P Q (Ok x) h g = g x h
-gives_weaker P Q (Err e) h g = tt
+pub gives_weaker : {A E : Type 0} (P Q : A → Type 0) (r : Result A E) → Gives P r → ((x : A) → P x → Q x) → Gives Q r
+gives_weaker P Q r h g = IfOk-weaker r P Q g h
 
-gives_inside : {A B : Type 0} (P : A → Type 0) (Q : B → Type 0) (sec : Section) (r : Result (A × Left) LineFault) (k : A → Left → Result B SheetFault)
+pub gives_inside : {A B : Type 0} (P : A → Type 0) (Q : B → Type 0) (sec : Section) (r : Result (A × Left) LineFault) (k : A → Left → Result B SheetFault)
     → Gives (λ x. P x.0) r → ((x : A) (s : Left) → P x → Gives Q (k x s)) → Gives Q (inside sec r k)
 gives_inside P Q sec (Ok x) k h g = g x.0 x.1 h
 gives_inside P Q sec (Err e) k h g = tt

@@ -40,18 +40,18 @@ between_step a b m n true h e =
     let high = leb-true m b i.1 in
     let same : m ≡ n = cc in
     (omega arith, omega arith)
-between_step a b m n false h e = let z : ◌≡◌ {A = ℕ} 0 1 = cc in absurd (omega arith)
+between_step a b m n false h e = absurd (cc)
 
 between : (a b : ℕ) (o : Option ℕ) (n : ℕ) → within a b o ≡ Some n → Between a b n
-between a b None n e = let z : ◌≡◌ {A = ℕ} 0 1 = cc in absurd (omega arith)
+between a b None n e = absurd (cc)
 between a b (Some m) n e = between_step a b m n (leb a m && leb m b) refl e
 
 made_step : (n : ℕ) (d : Dec (n ≤ 1000000)) (v : Volume) → where_kept d (λ kept. record { kwh = n; limited = kept }) ≡ Some v → v.kwh ≡ n
 made_step n (yes h) v e = let same : record { kwh = n; limited = h } ≡ v = cc in sym (ap (λ (v : Volume). v.kwh) same)
-made_step n (no h) v e = let z : ◌≡◌ {A = ℕ} 0 1 = cc in absurd (omega arith)
+made_step n (no h) v e = absurd (cc)
 
 volume_step : (least : ℕ) (o : Option ℕ) (v : Volume) → ((n : ℕ) → o ≡ Some n → least ≤ n) → from o volume_of ≡ Some v → least ≤ v.kwh
-volume_step least None v h e = let z : ◌≡◌ {A = ℕ} 0 1 = cc in absurd (omega arith)
+volume_step least None v h e = absurd (cc)
 volume_step least (Some n) v h e = let is = made_step n (dec_le n 1000000) v e in let low = h n refl in omega arith
 
 -- a volume is at least the least

@@ -65,12 +65,12 @@ module _ {A B : Type 0} (Q : A → Left → Result (B × Left) LineFault) (goes 
 -- the first of some lines
 rest_cut : (m : ℕ) (lines : List (List ℕ)) (p : List ℕ × List ℕ) (o : Option (List (List ℕ))) → first_lines m p.1 ≡ o → from o (λ ls. Some (p.0 ∷ ls)) ≡ Some lines
     → (q : List ℕ × List ℕ) × (ls : List (List ℕ)) × (Some p ≡ Some q) × (first_lines m q.1 ≡ Some ls) × (q.0 ∷ ls ≡ lines)
-rest_cut m lines p None h e = let z : ◌≡◌ {A = ℕ} 0 1 = cc in absurd (omega arith)
+rest_cut m lines p None h e = absurd (cc)
 rest_cut m lines p (Some ls) h e = let same : p.0 ∷ ls ≡ lines = cc in (p, ls, refl, h, same)
 
 first_cut : (m : ℕ) (lines : List (List ℕ)) (o : Option (List ℕ × List ℕ)) → from o (λ p. from (first_lines m p.1) (λ ls. Some (p.0 ∷ ls))) ≡ Some lines
     → (p : List ℕ × List ℕ) × (ls : List (List ℕ)) × (o ≡ Some p) × (first_lines m p.1 ≡ Some ls) × (p.0 ∷ ls ≡ lines)
-first_cut m lines None e = let z : ◌≡◌ {A = ℕ} 0 1 = cc in absurd (omega arith)
+first_cut m lines None e = absurd (cc)
 first_cut m lines (Some p) e = rest_cut m lines p (first_lines m p.1) refl e
 
 -- a line whose faults are its own
@@ -207,7 +207,7 @@ module _ (r : Reported) where
   later_behind false l = omega arith
 
   not_empty : (m : ℕ) (lines : List (List ℕ)) (text : List ℕ) → first_lines (suc m) text ≡ Some lines → eqb (length text) 0 ≡ false
-  not_empty m lines [] e = let z : ◌≡◌ {A = ℕ} 0 1 = cc in absurd (omega arith)
+  not_empty m lines [] e = absurd (cc)
   not_empty m lines (c ∷ cs) e = ne_eqb (suc (length cs)) 0 (omega arith)
 
   still_behind : (n : ℕ) (s u : Left) → s.line ≡ u.line → (m : ℕ) → s.line + m ≡ suc n → (lines : List (List ℕ)) → first_lines m u.text ≡ Some lines → s.line ≤ n → done u ≡ Err (fault_in section.End (fault_at Layout s.line 0))

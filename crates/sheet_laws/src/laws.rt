@@ -1,14 +1,10 @@
 // What holds of every text.
 ghost use Rattle.sheet_laws.specs.Laws.{SheetsAreWithinLimits, FaultsStand};
 
-pub fn sheets_are_within_limits() -> u8
+pub fn sheets_are_within_limits()
     ensures { SheetsAreWithinLimits }
-{
-    0
-}
+{}
 
-pub fn faults_stand() -> u8
+pub fn faults_stand()
     ensures { FaultsStand }
-{
-    0
-}
+{}

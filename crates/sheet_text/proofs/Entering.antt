@@ -1,8 +1,9 @@
 -- A list is read entry by entry.
-use Rattle.std.proofs.Common.{◌≡◌, ℕ, suc, ◌+◌, ◌-◌, ◌<◌, List, [], ◌∷◌, ◌++◌, Some, None, Ok, Err, Option, Result, sym, refl, ap, ◌∙◌, arith}
-use Rattle.text.specs.Cuts.{cut, parts}
+use Rattle.std.proofs.Common.{◌≡◌, ℕ, suc, ◌+◌, ◌-◌, ◌<◌, List, [], ◌∷◌, ◌++◌, Ok, Err, Result, sym, refl, ap, ◌∙◌, arith}
+use Rattle.std.proofs.lemmas.Grind.{common_steps}
+use Rattle.text.specs.Cuts.{parts}
 use Rattle.sheet_text.specs.Listing.{usual}
-use Rattle.sheet_text.specs.Reading.{Left, then, line_of, next_line, a_line, entries}
+use Rattle.sheet_text.specs.Reading.{Left, then, next_line, a_line, entries}
 use Rattle.sheet_text.specs.Standing.{parted, next_fields}
 use Rattle.sheet_text.specs.declared.faults.LineFault.{LineFault}
 
@@ -13,13 +14,9 @@ beside t x = Ok (x, t)
 pub ok_same : {A E : Type 0} {x y : A} → ◌≡◌ {A = Result A E} (Ok x) (Ok y) → x ≡ y
 ok_same e = cc
 
-number_step : (s t : Left) (ws : List (List ℕ)) (o : Option (List ℕ × List ℕ)) → then (line_of s.line o) parted ≡ Ok (ws, t) → t.line ≡ s.line + 1
-number_step s t ws None e = let z : ◌≡◌ {A = ℕ} 0 1 = cc in absurd (omega arith)
-number_step s t ws (Some p) e = let same = ok_same e in sym (ap (λ (q : List (List ℕ) × Left). q.1.line) same)
-
 -- the line behind the next one has the next number
 pub next_number : (s t : Left) (ws : List (List ℕ)) → next_fields s ≡ Ok (ws, t) → t.line ≡ s.line + 1
-next_number s t ws e = number_step s t ws (cut 10 s.text) e
+next_number s t ws e = grind (arith, common_steps)
 
 module _ {A : Type 0} (f : ℕ → List (List ℕ) → Result A LineFault) (counts : (l : ℕ) (ws : List (List ℕ)) → f l (usual ws) ≡ f l ws) (s : Left) where
   line_step : (r : Result (List ℕ × Left) LineFault)
@@ -48,12 +45,22 @@ module _ {A : Type 0} (f : ℕ → List (List ℕ) → Result A LineFault) (coun
     pub line_said : (x : A) → f l ws ≡ Ok x → a_line f s ≡ Ok (x, t)
     line_said x g = line_there ∙ ap (λ (r : Result A LineFault). then r (beside t)) g
 
-module _ {A : Type 0} (says : ℕ → ℕ → List (List ℕ) → Result A LineFault) (order : A → ℕ) (n i before : ℕ) (xs : List A) (s : Left) (more : i < n) where
-  entries_step : entries says order (n - i) before xs s ≡ then (a_line (says before) s) (λ x. entries says order (n - (i + 1)) (order x.0) (xs ++ x.0 ∷ []) x.1)
+module _ {A : Type 0} (says : ℕ → ℕ → List (List ℕ) → Result A LineFault) (order : A → ℕ) (counts : (before l : ℕ) (ws : List (List ℕ)) → says before l (usual ws) ≡ says before l ws)
+    (n i before : ℕ) (xs : List A) (s : Left) (more : i < n) where
+  abbrev onward : Result (A × Left) LineFault → Result (List A × Left) LineFault
+  onward r = then r (λ x. entries says order (n - (i + 1)) (order x.0) (xs ++ x.0 ∷ []) x.1)
+
+  entries_step : entries says order (n - i) before xs s ≡ onward (a_line (says before) s)
   entries_step = let one : n - i ≡ suc (n - (i + 1)) = omega arith in rw one
 
-  pub entries_stop : (e : LineFault) → a_line (says before) s ≡ Err e → entries says order (n - i) before xs s ≡ Err e
-  entries_stop e h = entries_step ∙ ap (λ (r : Result (A × Left) LineFault). then r (λ x. entries says order (n - (i + 1)) (order x.0) (xs ++ x.0 ∷ []) x.1)) h
+  -- a list ends at a line that is missing
+  pub entries_missing : (e : LineFault) → next_fields s ≡ Err e → entries says order (n - i) before xs s ≡ Err e
+  entries_missing e h = entries_step ∙ ap onward (line_missing (says before) (counts before) s e h)
 
-  pub entries_more : (x : A) (t : Left) → a_line (says before) s ≡ Ok (x, t) → entries says order (n - i) before xs s ≡ entries says order (n - (i + 1)) (order x) (xs ++ x ∷ []) t
-  entries_more x t h = entries_step ∙ ap (λ (r : Result (A × Left) LineFault). then r (λ x. entries says order (n - (i + 1)) (order x.0) (xs ++ x.0 ∷ []) x.1)) h
+  module _ (ws : List (List ℕ)) (t : Left) (h : next_fields s ≡ Ok (ws, t)) (l : ℕ) (is : l ≡ s.line) where
+    -- or at one that is wrong
+    pub entries_wrong : (e : LineFault) → says before l ws ≡ Err e → entries says order (n - i) before xs s ≡ Err e
+    entries_wrong e g = entries_step ∙ ap onward (line_wrong (says before) (counts before) s ws t h l is e g)
+
+    pub entries_more : (x : A) → says before l ws ≡ Ok x → entries says order (n - i) before xs s ≡ entries says order (n - (i + 1)) (order x) (xs ++ x ∷ []) t
+    entries_more x g = entries_step ∙ ap onward (line_said (says before) (counts before) s ws t h l is x g)

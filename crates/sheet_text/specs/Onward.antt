@@ -1,10 +1,10 @@
 -- What a reader comes to from where it stands, for the contracts of its parts.
-use Rattle.std.specs.Prelude.{◌≡◌, ℕ, ◌+◌, ◌≤◌, List, Ok, Err, Result}
+use Rattle.std.specs.Prelude.{◌≡◌, ℕ, ◌+◌, ◌≤◌, List, [], Ok, Err, Result}
 use Rattle.sheet.specs.declared.lines.GroupLine.{GroupLine}
 use Rattle.sheet.specs.declared.lines.Offer.{Offer}
 use Rattle.sheet.specs.declared.lines.UnitLine.{UnitLine}
 use Rattle.sheet_text.specs.Lines.{three, four, eight, period_line, day_ahead_line, forced_line, offer_line, unit_line, group_line}
-use Rattle.sheet_text.specs.Reading.{Left, Reported, a_line, a_list, the_end, inside}
+use Rattle.sheet_text.specs.Reading.{Left, Reported, then, a_line, entries, a_list, the_end, inside}
 use Rattle.sheet_text.specs.Reported.{plain}
 use Rattle.sheet_text.specs.Standing.{left}
 use Rattle.sheet_text.specs.Steps.{step, next_stage, most_entries, with_place, with_day_ahead, with_forced}
@@ -91,3 +91,18 @@ Refuses a e = a_line (step a.draft.stage (plain a.draft.report)) (left a.cursor)
 -- one reader comes to the same as the other, and has gone on
 abbrev pub Reaches : Reader → Reader → Stage → ℕ → Type 0
 Reaches a b s l = (outcome b ≡ outcome a) × (b.draft.stage ≡ s) × (b.cursor.line ≤ l)
+
+module _ {A : Type 0} (says : ℕ → ℕ → List (List ℕ) → Result A LineFault) (order : A → ℕ) where
+  -- the report with what the awaited line says, and the entries that follow the line
+  abbrev pub list_step : Stage → Reported → Left → Result ((Reported × List A) × Left) LineFault
+  list_step st r s = then (a_line (step st r) s) (λ n. then (entries says order n.0.1 0 [] n.1) (λ xs. Ok ((n.0.0, xs.0), xs.1)))
+
+  -- the awaited line and its entries take one reader to the other
+  abbrev pub TakesList : Reader → Reader → List A → Type 0
+  TakesList a b xs =
+      (list_step a.draft.stage (plain a.draft.report) (left a.cursor) ≡ Ok ((plain b.draft.report, xs), left b.cursor))
+      × (b.draft.stage ≡ next_stage a.draft.stage)
+      × (b.cursor.line ≤ a.cursor.line + 1 + most_entries a.draft.stage)
+
+  abbrev pub RefusesList : Reader → LineFault → Type 0
+  RefusesList a e = list_step a.draft.stage (plain a.draft.report) (left a.cursor) ≡ Err e

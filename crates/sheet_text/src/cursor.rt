@@ -26,9 +26,7 @@ impl<'a> Cursor<'a> {
             (λ f. next_fields (left self.old) ≡ Ok (listing f, left self.new))
             (λ e. next_fields (left self.old) ≡ Err e) }
     {
-        let Some((bytes, rest)) = cut_at(self.rest, b'\n') else {
-            return Err(FaultKind::Layout.at(self.line, 0));
-        };
+        let (bytes, rest) = cut_at(self.rest, b'\n').ok_or(FaultKind::Layout.at(self.line, 0))?;
         self.rest = rest;
         self.line += 1;
         Ok(fields_of(bytes))

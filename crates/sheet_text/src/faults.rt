@@ -2,7 +2,7 @@
 ghost use Rattle.std.specs.Prelude.{◌≡◌};
 ghost use Rattle.sheet_text.specs.Faults.{number_of, word_of, fault_at};
 
-#[derive(Clone, Copy)]
+#[derive(Clone, Copy, Debug, PartialEq, Eq)]
 pub enum FaultKind {
     // a line's end, its number of fields, a letter or a sign
     Layout,
@@ -16,14 +16,14 @@ pub enum FaultKind {
 }
 
 // Lines and fields are counted from 1; field 0 is the whole line.
-#[derive(Clone, Copy)]
+#[derive(Clone, Copy, Debug, PartialEq, Eq)]
 pub struct LineFault {
     pub kind: FaultKind,
     pub line: u32,
     pub field: u32,
 }
 
-#[derive(Clone, Copy)]
+#[derive(Clone, Copy, Debug, PartialEq, Eq)]
 pub enum Section {
     Head,
     Offers,
@@ -32,7 +32,7 @@ pub enum Section {
     End,
 }
 
-#[derive(Clone, Copy)]
+#[derive(Clone, Copy, Debug, PartialEq, Eq)]
 pub struct SheetFault {
     pub section: Section,
     pub fault: LineFault,
@@ -50,9 +50,7 @@ impl FaultKind {
             FaultKind::Order => 5,
         }
     }
-}
 
-impl FaultKind {
     pub(crate) fn at(self, line: u32, field: u32) -> LineFault
         ensures { result ≡ fault_at self line field }
     {

@@ -8,7 +8,6 @@ use measures::price::Price;
 use measures::volume::PeriodVolume;
 use sheet::place::Place;
 use text::numbers::number_within;
-use text::words::is_word;
 
 const ZONES: u16 = 2;
 
@@ -19,11 +18,7 @@ const PERIODS: u16 = 24;
 pub(crate) fn need_word(field: &[u8], word: &[u8], fault: LineFault) -> Result<(), LineFault>
     ensures { result ≡ fixed field.now word.now fault (Ok tt) }
 {
-    if is_word(field, word) {
-        Ok(())
-    } else {
-        Err(fault)
-    }
+    if field == word { Ok(()) } else { Err(fault) }
 }
 
 // `PERIOD zone day period`
@@ -89,8 +84,7 @@ pub(crate) fn count_line(
     ensures few { IfOk result (λ n. n ≤ most) }
 {
     need_word(keyword, word, FaultKind::Keyword.at(line, 1))?;
-    let count = number_within(count, 0, most).ok_or(FaultKind::Number.at(line, 2))?;
-    Ok(count)
+    number_within(count, 0, most).ok_or(FaultKind::Number.at(line, 2))
 }
 
 // `END`

@@ -1,116 +1,89 @@
 // A line's fault on its way up: it takes the section of the line with it.
 ghost use Rattle.std.specs.Prelude.{◌≡◌};
 ghost use Rattle.sheet_text.specs.Faults.{fault_in};
+ghost use Rattle.sheet_text.specs.declared.faults.Section.{Section};
 ghost use Rattle.sheet_text.specs.declared.faults.Section.TheVariants as sections;
 
 use crate::faults::{LineFault, Section, SheetFault};
+use std::marker::PhantomData;
 
-#[derive(Clone, Copy)]
-pub(crate) struct HeadFault(pub LineFault);
+// A part of a sheet, as a type.
+pub(crate) trait Part {
+    const SECTION: Section;
 
-#[derive(Clone, Copy)]
-pub(crate) struct OffersFault(pub LineFault);
-
-#[derive(Clone, Copy)]
-pub(crate) struct UnitsFault(pub LineFault);
-
-#[derive(Clone, Copy)]
-pub(crate) struct GroupsFault(pub LineFault);
-
-#[derive(Clone, Copy)]
-pub(crate) struct EndFault(pub LineFault);
-
-impl From<LineFault> for HeadFault {
-    ghost from_gives = { λ e r. r.0 ≡ e };
-
-    fn from(fault: LineFault) -> HeadFault {
-        HeadFault(fault)
-    }
+    ghost SECTION: { Section };
 }
 
-impl From<LineFault> for OffersFault {
-    ghost from_gives = { λ e r. r.0 ≡ e };
+#[derive(Clone, Copy)]
+pub(crate) struct Head;
 
-    fn from(fault: LineFault) -> OffersFault {
-        OffersFault(fault)
-    }
+#[derive(Clone, Copy)]
+pub(crate) struct Offers;
+
+#[derive(Clone, Copy)]
+pub(crate) struct Units;
+
+#[derive(Clone, Copy)]
+pub(crate) struct Groups;
+
+#[derive(Clone, Copy)]
+pub(crate) struct End;
+
+impl Part for Head {
+    ghost SECTION = { sections.Head };
+
+    const SECTION: Section = Section::Head;
 }
 
-impl From<LineFault> for UnitsFault {
-    ghost from_gives = { λ e r. r.0 ≡ e };
+impl Part for Offers {
+    ghost SECTION = { sections.Offers };
 
-    fn from(fault: LineFault) -> UnitsFault {
-        UnitsFault(fault)
-    }
+    const SECTION: Section = Section::Offers;
 }
 
-impl From<LineFault> for GroupsFault {
-    ghost from_gives = { λ e r. r.0 ≡ e };
+impl Part for Units {
+    ghost SECTION = { sections.Units };
 
-    fn from(fault: LineFault) -> GroupsFault {
-        GroupsFault(fault)
-    }
+    const SECTION: Section = Section::Units;
 }
 
-impl From<LineFault> for EndFault {
-    ghost from_gives = { λ e r. r.0 ≡ e };
+impl Part for Groups {
+    ghost SECTION = { sections.Groups };
 
-    fn from(fault: LineFault) -> EndFault {
-        EndFault(fault)
-    }
+    const SECTION: Section = Section::Groups;
 }
 
-impl From<HeadFault> for SheetFault {
-    ghost from_gives = { λ e r. r ≡ fault_in sections.Head e.0 };
+impl Part for End {
+    ghost SECTION = { sections.End };
 
-    fn from(raised: HeadFault) -> SheetFault {
-        SheetFault {
-            section: Section::Head,
-            fault: raised.0,
+    const SECTION: Section = Section::End;
+}
+
+// A line's fault in the part P.
+#[derive(Clone, Copy)]
+pub(crate) struct FaultIn<P> {
+    pub fault: LineFault,
+    pub part: PhantomData<P>,
+}
+
+impl<P> From<LineFault> for FaultIn<P> {
+    ghost from_gives = { λ e r. r.fault ≡ e };
+
+    fn from(fault: LineFault) -> FaultIn<P> {
+        FaultIn {
+            fault,
+            part: PhantomData,
         }
     }
 }
 
-impl From<OffersFault> for SheetFault {
-    ghost from_gives = { λ e r. r ≡ fault_in sections.Offers e.0 };
+impl<P: Part> From<FaultIn<P>> for SheetFault {
+    ghost from_gives = { λ e r. r ≡ fault_in P.SECTION e.fault };
 
-    fn from(raised: OffersFault) -> SheetFault {
+    fn from(raised: FaultIn<P>) -> SheetFault {
         SheetFault {
-            section: Section::Offers,
-            fault: raised.0,
-        }
-    }
-}
-
-impl From<UnitsFault> for SheetFault {
-    ghost from_gives = { λ e r. r ≡ fault_in sections.Units e.0 };
-
-    fn from(raised: UnitsFault) -> SheetFault {
-        SheetFault {
-            section: Section::Units,
-            fault: raised.0,
-        }
-    }
-}
-
-impl From<GroupsFault> for SheetFault {
-    ghost from_gives = { λ e r. r ≡ fault_in sections.Groups e.0 };
-
-    fn from(raised: GroupsFault) -> SheetFault {
-        SheetFault {
-            section: Section::Groups,
-            fault: raised.0,
-        }
-    }
-}
-
-impl From<EndFault> for SheetFault {
-    ghost from_gives = { λ e r. r ≡ fault_in sections.End e.0 };
-
-    fn from(raised: EndFault) -> SheetFault {
-        SheetFault {
-            section: Section::End,
-            fault: raised.0,
+            section: P::SECTION,
+            fault: raised.fault,
         }
     }
 }

@@ -1,15 +1,19 @@
 // A reader on its way through a text.
-ghost use Rattle.std.specs.Prelude.{◌≡◌, ◌<◌, Err, MatchResult};
+ghost use Rattle.std.specs.Prelude.{◌≡◌, ◌+◌, ◌<◌, ◌≤◌, Err, MatchResult};
+ghost use Rattle.sheet.specs.Listed.{listed};
 ghost use Rattle.sheet_text.specs.Faults.{fault_in};
 ghost use Rattle.sheet_text.specs.Reading.{reading};
-ghost use Rattle.sheet_text.specs.Onward.{outcome, At, Takes, Refuses, Reaches};
+ghost use Rattle.sheet_text.specs.Onward.{outcome, At, Takes, Refuses, TakesList, RefusesList, Reaches};
+ghost use Rattle.sheet_text.specs.Steps.{most_entries};
 ghost use Rattle.sheet_text.specs.declared.draft.Stage.TheVariants as stages;
 ghost use Rattle.sheet_text.specs.declared.faults.Section.TheVariants as sections;
 
 use crate::cursor::Cursor;
 use crate::draft::Draft;
+use crate::entry::Entry;
 use crate::faults::LineFault;
-use crate::raised::{EndFault, GroupsFault, HeadFault, OffersFault, UnitsFault};
+use crate::raised::{End, FaultIn, Groups, Head, Offers, Units};
+use sheet::entries::Entries;
 
 #[derive(Drop)]
 pub(crate) struct Reader<'a> {
@@ -42,10 +46,22 @@ impl<'a> Reader<'a> {
         self.draft.take_line(line, fields)
     }
 
+    // Takes the line that is awaited, and the entries that follow it.
+    fn take_list<T: Entry, const N: usize>(&mut self) -> Result<Entries<T, N>, LineFault>
+        requires short { self.old.cursor.line + most_entries self.old.draft.stage < 999 }
+        requires room { most_entries self.old.draft.stage ≤ N }
+        ensures { MatchResult result
+            (λ xs. TakesList T.Entry.says T.Entry.order self.old self.new (listed xs))
+            (λ e. RefusesList T.Entry.says T.Entry.order self.old e) }
+    {
+        let count = self.take_line()?;
+        self.cursor.next_entries(count)
+    }
+
     // The place, the day-ahead price and the forced reduction.
-    pub(crate) fn read_head(&mut self) -> Result<(), HeadFault>
+    pub(crate) fn read_head(&mut self) -> Result<(), FaultIn<Head>>
         requires { At self.old stages.Period 1 }
-        ensures { MatchResult result (λ _. Reaches self.old self.new stages.Offers 4) (λ e. outcome self.old ≡ Err (fault_in sections.Head e.0)) }
+        ensures { MatchResult result (λ _. Reaches self.old self.new stages.Offers 4) (λ e. outcome self.old ≡ Err (fault_in sections.Head e.fault)) }
     {
         self.take_line()?;
         self.take_line()?;
@@ -53,36 +69,33 @@ impl<'a> Reader<'a> {
         Ok(())
     }
 
-    pub(crate) fn read_offers(&mut self) -> Result<(), OffersFault>
+    pub(crate) fn read_offers(&mut self) -> Result<(), FaultIn<Offers>>
         requires { At self.old stages.Offers 4 }
-        ensures { MatchResult result (λ _. Reaches self.old self.new stages.Units 29) (λ e. outcome self.old ≡ Err (fault_in sections.Offers e.0)) }
+        ensures { MatchResult result (λ _. Reaches self.old self.new stages.Units 29) (λ e. outcome self.old ≡ Err (fault_in sections.Offers e.fault)) }
     {
-        let count = self.take_line()?;
-        self.draft.report.sheet.offers = self.cursor.next_entries(count)?;
+        self.draft.report.sheet.offers = self.take_list()?;
         Ok(())
     }
 
-    pub(crate) fn read_units(&mut self) -> Result<(), UnitsFault>
+    pub(crate) fn read_units(&mut self) -> Result<(), FaultIn<Units>>
         requires { At self.old stages.Units 29 }
-        ensures { MatchResult result (λ _. Reaches self.old self.new stages.Groups 46) (λ e. outcome self.old ≡ Err (fault_in sections.Units e.0)) }
+        ensures { MatchResult result (λ _. Reaches self.old self.new stages.Groups 46) (λ e. outcome self.old ≡ Err (fault_in sections.Units e.fault)) }
     {
-        let count = self.take_line()?;
-        self.draft.report.sheet.units = self.cursor.next_entries(count)?;
+        self.draft.report.sheet.units = self.take_list()?;
         Ok(())
     }
 
-    pub(crate) fn read_groups(&mut self) -> Result<(), GroupsFault>
+    pub(crate) fn read_groups(&mut self) -> Result<(), FaultIn<Groups>>
         requires { At self.old stages.Groups 46 }
-        ensures { MatchResult result (λ _. Reaches self.old self.new stages.End 63) (λ e. outcome self.old ≡ Err (fault_in sections.Groups e.0)) }
+        ensures { MatchResult result (λ _. Reaches self.old self.new stages.End 63) (λ e. outcome self.old ≡ Err (fault_in sections.Groups e.fault)) }
     {
-        let count = self.take_line()?;
-        self.draft.report.sheet.groups = self.cursor.next_entries(count)?;
+        self.draft.report.sheet.groups = self.take_list()?;
         Ok(())
     }
 
-    pub(crate) fn read_end(&mut self) -> Result<(), EndFault>
+    pub(crate) fn read_end(&mut self) -> Result<(), FaultIn<End>>
         requires { At self.old stages.End 63 }
-        ensures { MatchResult result (λ _. Reaches self.old self.new stages.Done 64) (λ e. outcome self.old ≡ Err (fault_in sections.End e.0)) }
+        ensures { MatchResult result (λ _. Reaches self.old self.new stages.Done 64) (λ e. outcome self.old ≡ Err (fault_in sections.End e.fault)) }
     {
         self.take_line()?;
         self.cursor.finish()?;

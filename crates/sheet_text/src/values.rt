@@ -18,10 +18,11 @@ pub(crate) fn small_number(field: &[u8], least: u16, most: u16) -> Option<u16>
     ensures value { result ≡ within least most (number field.now) }
     ensures bounds { IfSome result (λ n. (least ≤ n) × (n ≤ most)) }
 {
-    let n = number_within(field, least as u32, most as u32)?;
+    let n = number_within(field, u32::from(least), u32::from(most))?;
     Some(n as u16)
 }
 
+// What a letter says has types of other crates, for which no `TryFrom` can stand here.
 pub(crate) fn direction_of(field: &[u8]) -> Option<Direction>
     ensures { result ≡ direction_field field.now }
 {

@@ -6,8 +6,8 @@ use Rattle.sheet_text.specs.Standing.{left}
 use Rattle.sheet_text.proofs.cursor.Cursor.next_entries.Given as goal
 
 abbrev pub invariant-loop-index : goal.invariant-loop-index
-invariant-loop-index g l =
-    (l.self.line ≡ l.first + l.index)
-    × (length (listed l.found) ≡ l.index)
-    × (entries g.T.Entry.says g.T.Entry.order (l.count - l.index) l.before (listed l.found) (left l.self)
-    ≡ entries g.T.Entry.says g.T.Entry.order l.count 0 [] (left l.initial.self))
+invariant-loop-index g l = record {
+  line : l.self.line ≡ l.first + l.index;
+  many : length (listed l.found) ≡ l.index;
+  rest : entries g.T.Entry.says g.T.Entry.order (l.count - l.index) l.before (listed l.found) (left l.self) ≡ entries g.T.Entry.says g.T.Entry.order l.count 0 [] (left l.initial.self);
+}
