@@ -14,8 +14,5 @@ pub type Row = Option<Sheet>;
 pub fn sheet_on(row: &Row) -> Option<&Sheet>
     ensures { option_map (λ s. figures_of s.now) result ≡ sheet_on row.now }
 {
-    match row {
-        Some(sheet) if is_sheet(sheet) => Some(sheet),
-        _ => None,
-    }
+    row.as_ref().filter(|sheet| is_sheet(sheet))
 }
