@@ -18,9 +18,7 @@ impl Limited for Offer {
     ghost within = { offer_within };
 
     fn is_within_limits(&self) -> bool {
-        (1..=4).contains(&self.quarter)
-            && (1..=999).contains(&self.unit)
-            && self.volume.kwh >= 1
+        (1..=4).contains(&self.quarter) && (1..=999).contains(&self.unit) && self.volume.kwh >= 1
     }
 }
 
