@@ -10,7 +10,7 @@ ghost use Rattle.price_changes.specs.Changed.{changed_view, overfull};
 ghost use Rattle.book.specs.Checks.{verdict};
 ghost use Rattle.book.specs.Found.{found_in, changes_of};
 ghost use Rattle.book.specs.Memory.{standing, memory, place_of, found, number_in};
-ghost use Rattle.book.specs.Filing.{report_checks, force_check, put_verdict, put_report, put_answer, put_after, withdraw_answer, withdraw_after};
+ghost use Rattle.book.specs.Filing.{report_checks, put_verdict, put_report, put_answer, put_after, withdraw_answer, withdraw_after};
 ghost use Rattle.book.specs.declared.putting.Putting.TheVariants.{Filing as filing, Replacing as replacing};
 ghost use Rattle.book.specs.declared.refusal.BookRefusal.TheVariants.{HistoryFull};
 
@@ -30,17 +30,6 @@ use sheet_text::reading::read;
 use sheet_text::report::Report;
 use shelf::packing::packed_sheet;
 use shelf::rows::{Row, sheet_on};
-
-// A sheet is filed where none is in force, and replaced where one is.
-fn check_force(how: Putting, in_force: bool) -> Result<(), BookRefusal>
-    ensures { result ≡ verdict (force_check how in_force ∷ []) (tt {0}) }
-{
-    match (how, in_force) {
-        (Putting::Filing, true) => Err(BookRefusal::SheetInForce),
-        (Putting::Replacing, false) => Err(BookRefusal::NoSheet),
-        _ => Ok(()),
-    }
-}
 
 // Puts another sheet at a place, or none, and changes its prices in the history.
 fn put_sheet<K: PriceKeeping>(
@@ -95,7 +84,7 @@ impl Book {
     {
         let spot = self.place_for(register, shelf.len(), report)?;
         let in_force = sheet_on(&shelf[spot.number]).is_some();
-        check_force(how, in_force)?;
+        how.check(in_force)?;
         put_sheet(history, shelf, spot, Some(&report.sheet))
     }
 

@@ -6,7 +6,7 @@ use price_history::series::Series;
 use sheet::place::Place;
 
 // A zone, a day and a settlement period.
-#[derive(Clone, Copy)]
+#[derive(Clone, Copy, Debug, PartialEq, Eq)]
 pub struct StatedPlace {
     pub zone: u16,
     pub day: u16,
@@ -26,7 +26,7 @@ impl From<Place> for StatedPlace {
 }
 
 // Where a price belongs in a history.
-#[derive(Clone, Copy)]
+#[derive(Clone, Copy, PartialEq)]
 pub struct StatedKey {
     pub series: Series,
     pub zone: u16,
@@ -35,7 +35,7 @@ pub struct StatedKey {
 }
 
 // A price, in kopecks per MWh.
-#[derive(Clone, Copy)]
+#[derive(Clone, Copy, Debug, PartialEq, Eq)]
 pub struct StatedPrice {
     pub kop: i32,
 }

@@ -12,7 +12,6 @@ use Rattle.price_changes.specs.Changed.{changed_view}
 use Rattle.book.specs.Found.{changes_of}
 use Rattle.book.specs.Memory.{found}
 use Rattle.book.specs.declared.refusal.BookRefusal.TheVariants.{HistoryFull}
-use Rattle.book.proofs.Put.{mapped_mapped}
 use Rattle.book.proofs.Room.{refused, granted}
 use Rattle.book.proofs.filing.put_sheet.Goals as goal
 
