@@ -1,4 +1,3 @@
-pub mod Cleared
 pub mod Decades
 pub mod Entered
 pub mod Put

@@ -18,22 +18,18 @@ use Rattle.book.specs.declared.putting.Putting.{Putting}
 use Rattle.book.specs.declared.refusal.BookRefusal.{BookRefusal}
 use Rattle.book.specs.declared.refusal.BookRefusal.TheVariants.{HistoryFull}
 use Rattle.book.specs.declared.stated.StatedPlace.{StatedPlace}
-use Rattle.book.proofs.Verdicts.{refused_front, passed_front}
+use Rattle.book.proofs.Verdicts.{refused_front, passed_front, passed_is}
 
 abbrev pub mem : Standing → View → Roll → List (Option Sheet) → Memory
 mem b view roll rows = record { book = b; history = view; register = roll; rows = rows }
 
-pub some_mapped : {A B : Type 0} (f : A → B) (o : Option A) → is_some (option_map f o) ≡ is_some o
-some_mapped f None = refl
-some_mapped f (Some x) = refl
-
-pub mapped_mapped : {A B C : Type 0} (f : A → B) (g : B → C) (o : Option A) → option_map (λ x. g (f x)) o ≡ option_map g (option_map f o)
-mapped_mapped f g None = refl
-mapped_mapped f g (Some x) = refl
-
 -- the sheet at a place with a number, where that is its number
 pub sheet_found : (b : Standing) (rows : List (Option Sheet)) (p : StatedPlace) (q : StatedPlace × ℕ) → q ≡ (p, number_in b p) → sheet_on (get_or rows q.1 None) ≡ sheet_at b rows p
 sheet_found b rows p q e = ap (λ (x : StatedPlace × ℕ). sheet_on (get_or rows x.1 None)) e
+
+-- whether a sheet is in force at a place that passed, from what stands at its number
+pub in_force_at : (b : Standing) (rows : List (Option Sheet)) (p : StatedPlace) (cs : List Check) (q : StatedPlace × ℕ) (t : Bool) → verdict cs (p, number_in b p) ≡ Ok q → t ≡ is_some (sheet_on (get_or rows q.1 None)) → is_some (sheet_at b rows p) ≡ t
+in_force_at b rows p cs q t passed e = sym (e ∙ ap is_some (sheet_found b rows p q (sym (passed_is cs (p, number_in b p) q passed))))
 
 -- both are changed, or neither
 both_or_neither : (b : Standing) (roll : Roll) (h h' : View) (w w' : List (Option Sheet)) (t : Bool) → mem b (cond t h' h) roll (cond t w' w) ≡ cond t (mem b h' roll w') (mem b h roll w)

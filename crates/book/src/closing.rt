@@ -15,12 +15,7 @@ use shelf::rows::{Row, sheet_on};
 fn all_filled(rows: &[Row]) -> bool
     ensures { result ≡ list_all (λ row. is_some (sheet_on row)) rows.now }
 {
-    for row in rows {
-        if sheet_on(row).is_none() {
-            return false;
-        }
-    }
-    true
+    rows.iter().all(|row| sheet_on(row).is_some())
 }
 
 impl Book {

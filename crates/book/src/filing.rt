@@ -10,7 +10,7 @@ ghost use Rattle.price_changes.specs.Changed.{changed_view, overfull};
 ghost use Rattle.book.specs.Checks.{verdict};
 ghost use Rattle.book.specs.Found.{found_in, changes_of};
 ghost use Rattle.book.specs.Memory.{standing, memory, place_of, found, number_in};
-ghost use Rattle.book.specs.Filing.{report_checks, force_check, put_verdict, put_report, put_answer, put_after, withdraw_answer, withdraw_after};
+ghost use Rattle.book.specs.Filing.{report_checks, put_verdict, put_report, put_answer, put_after, withdraw_answer, withdraw_after};
 ghost use Rattle.book.specs.declared.putting.Putting.TheVariants.{Filing as filing, Replacing as replacing};
 ghost use Rattle.book.specs.declared.refusal.BookRefusal.TheVariants.{HistoryFull};
 
@@ -31,42 +31,21 @@ use sheet_text::report::Report;
 use shelf::packing::packed_sheet;
 use shelf::rows::{Row, sheet_on};
 
-// The row of a sheet, or of none.
-fn packed_row(sheet: &Option<Sheet>) -> Row
-    ensures { result ≡ option_map packed_sheet (option_map figures_of sheet.now) }
-{
-    match sheet {
-        Some(sheet) => Some(packed_sheet(sheet)),
-        None => None,
-    }
-}
-
-// A sheet is filed where none is in force, and replaced where one is.
-fn check_force(how: Putting, in_force: bool) -> Result<(), BookRefusal>
-    ensures { result ≡ verdict (force_check how in_force ∷ []) (tt {0}) }
-{
-    match (how, in_force) {
-        (Putting::Filing, true) => Err(BookRefusal::SheetInForce),
-        (Putting::Replacing, false) => Err(BookRefusal::NoSheet),
-        _ => Ok(()),
-    }
-}
-
 // Puts another sheet at a place, or none, and changes its prices in the history.
 fn put_sheet<K: PriceKeeping>(
     history: &mut K,
     shelf: &mut [Row],
     spot: Spot,
-    new: &Option<Sheet>,
+    new: Option<&Sheet>,
 ) -> Result<(), BookRefusal>
     requires { spot.number < length shelf.old }
-    ensures answer { result ≡ verdict ((overfull (changed_view (K.PriceHistory.view history.old) (changes_of shelf.old (found spot) (option_map figures_of new.now))), HistoryFull) ∷ []) (tt {0}) }
-    ensures history { K.PriceHistory.view history.new ≡ (if is_ok result then changed_view (K.PriceHistory.view history.old) (changes_of shelf.old (found spot) (option_map figures_of new.now)) else K.PriceHistory.view history.old) }
-    ensures rows { shelf.new ≡ (if is_ok result then slice_set shelf.old spot.number (option_map packed_sheet (option_map figures_of new.now)) else shelf.old) }
+    ensures answer { result ≡ verdict ((overfull (changed_view (K.PriceHistory.view history.old) (changes_of shelf.old (found spot) (option_map (λ s. figures_of s.now) new.entry))), HistoryFull) ∷ []) (tt {0}) }
+    ensures history { K.PriceHistory.view history.new ≡ (if is_ok result then changed_view (K.PriceHistory.view history.old) (changes_of shelf.old (found spot) (option_map (λ s. figures_of s.now) new.entry)) else K.PriceHistory.view history.old) }
+    ensures rows { shelf.new ≡ (if is_ok result then slice_set shelf.old spot.number (option_map packed_sheet (option_map (λ s. figures_of s.now) new.entry)) else shelf.old) }
 {
-    let changes = price_changes(spot.place, sheet_on(&shelf[spot.number]), new.as_ref());
+    let changes = price_changes(spot.place, sheet_on(&shelf[spot.number]), new);
     change_prices(history, &changes)?;
-    shelf[spot.number] = packed_row(new);
+    shelf[spot.number] = new.map(packed_sheet);
     Ok(())
 }
 
@@ -81,11 +60,7 @@ impl Book {
         ensures answer { found_in result ≡ verdict (report_checks (standing self.now) (roll register.now) long (place_of (plain report.now)) (figures_of report.now.sheet)) (place_of (plain report.now), number_in (standing self.now) (place_of (plain report.now))) }
         ensures within { IfOk result (λ s. s.number < long) }
     {
-        let place = StatedPlace {
-            zone: report.place.zone,
-            day: report.place.day,
-            period: report.place.period,
-        };
+        let place = StatedPlace::from(report.place);
         let spot = self.find_place(long, place)?;
         if !knows_units(register, &report.sheet) {
             return Err(BookRefusal::UnitUnknown);
@@ -109,8 +84,8 @@ impl Book {
     {
         let spot = self.place_for(register, shelf.len(), report)?;
         let in_force = sheet_on(&shelf[spot.number]).is_some();
-        check_force(how, in_force)?;
-        put_sheet(history, shelf, spot, &Some(report.sheet))
+        how.check(in_force)?;
+        put_sheet(history, shelf, spot, Some(&report.sheet))
     }
 
     // Puts a sheet in force, and enters the prices that form on it.
@@ -160,6 +135,6 @@ impl Book {
         if sheet_on(&shelf[spot.number]).is_none() {
             return Err(BookRefusal::NoSheet);
         }
-        put_sheet(history, shelf, spot, &None)
+        put_sheet(history, shelf, spot, None)
     }
 }

@@ -9,15 +9,6 @@ use price_history::history::PriceHistory;
 use shelf::places::places_of;
 use shelf::rows::Row;
 
-fn clear(shelf: &mut [Row], places: usize)
-    requires { places ≤ length shelf.old }
-    ensures { shelf.new ≡ replicate places None ++ drop places shelf.old }
-{
-    for number in 0..places {
-        shelf[number] = None;
-    }
-}
-
 impl Book {
     // A book of a month with no sheet and no closed decade, over a history without a price. Empties its
     // places on the shelf.
@@ -30,10 +21,7 @@ impl Book {
         ensures answer { opened result ≡ open_answer days zones (H.PriceHistory.view history.now) (length shelf.old) }
         ensures rows { shelf.new ≡ (if is_ok result then open_rows days zones shelf.old else shelf.old) }
     {
-        if days < 28 || days > 31 {
-            return Err(BookRefusal::BookSize);
-        }
-        if zones < 1 || zones > 2 {
+        if !(28..=31).contains(&days) || !(1..=2).contains(&zones) {
             return Err(BookRefusal::BookSize);
         }
         let places = places_of(days, zones);
@@ -43,7 +31,7 @@ impl Book {
         if history.count() != 0 {
             return Err(BookRefusal::HistoryNotEmpty);
         }
-        clear(shelf, places);
+        shelf[..places].fill(None);
         Ok(Book {
             days,
             zones,

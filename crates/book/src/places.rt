@@ -27,10 +27,7 @@ impl Book {
     pub(crate) fn is_closed(&self, day: u16) -> bool
         ensures { result ≡ is_closed (standing self.now) day }
     {
-        match Decade::of_day(day) {
-            Some(decade) => number_of_decade(decade) <= self.closed,
-            None => false,
-        }
+        Decade::of_day(day).is_some_and(|decade| number_of_decade(decade) <= self.closed)
     }
 
     // The place on a shelf of so many places.
@@ -42,13 +39,10 @@ impl Book {
             return Err(BookRefusal::ShelfShort);
         }
         let StatedPlace { zone, day, period } = stated;
-        if zone < 1 || zone > self.zones {
-            return Err(BookRefusal::Outside);
-        }
-        if day < 1 || day > self.days {
-            return Err(BookRefusal::Outside);
-        }
-        if period < 1 || period > 24 {
+        if !(1..=self.zones).contains(&zone)
+            || !(1..=self.days).contains(&day)
+            || !(1..=24).contains(&period)
+        {
             return Err(BookRefusal::Outside);
         }
         let place = Place { zone, day, period };

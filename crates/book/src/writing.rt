@@ -21,9 +21,7 @@ impl Book {
         ensures output { out.new ≡ write_output (standing self.now) shelf.now place out.old }
     {
         let spot = self.find_place(shelf.len(), place)?;
-        let Some(sheet) = sheet_on(&shelf[spot.number]) else {
-            return Err(BookRefusal::NoSheet);
-        };
+        let sheet = sheet_on(&shelf[spot.number]).ok_or(BookRefusal::NoSheet)?;
         Ok(write_sheet(spot.place, sheet, out)?)
     }
 }

@@ -18,11 +18,7 @@ impl Limited for Offer {
     ghost within = { offer_within };
 
     fn is_within_limits(&self) -> bool {
-        self.quarter >= 1
-            && self.quarter <= 4
-            && self.unit >= 1
-            && self.unit <= 999
-            && self.volume.kwh >= 1
+        (1..=4).contains(&self.quarter) && (1..=999).contains(&self.unit) && self.volume.kwh >= 1
     }
 }
 
@@ -30,7 +26,7 @@ impl Limited for UnitLine {
     ghost within = { unit_within };
 
     fn is_within_limits(&self) -> bool {
-        self.unit >= 1 && self.unit <= 999
+        (1..=999).contains(&self.unit)
     }
 }
 
@@ -38,19 +34,14 @@ impl Limited for GroupLine {
     ghost within = { group_within };
 
     fn is_within_limits(&self) -> bool {
-        self.party >= 1 && self.party <= 64
+        (1..=64).contains(&self.party)
     }
 }
 
 fn all_within<L: Limited>(lines: &[L]) -> bool
     ensures { result ≡ list_all L.Limited.within lines.now }
 {
-    for line in lines {
-        if !line.is_within_limits() {
-            return false;
-        }
-    }
-    true
+    lines.iter().all(L::is_within_limits)
 }
 
 pub(crate) fn is_sheet(sheet: &Sheet) -> bool

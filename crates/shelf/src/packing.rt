@@ -47,12 +47,12 @@ fn no_group() -> GroupLine
 fn pack<T: Copy, const N: usize>(entries: &Entries<T, N>, filler: T) -> Entries<T, N>
     ensures { result ≡ packed filler (listed entries.now) }
 {
-    let count = entries.len.min(N);
-    let mut items = entries.items;
-    for place in count..N {
-        items[place] = filler;
-    }
-    Entries { items, len: count }
+    let used = entries.as_slice();
+    let len = used.len();
+    let mut items = [filler; N];
+    let (front, _) = items.split_at_mut(len);
+    front.copy_from_slice(used);
+    Entries { items, len }
 }
 
 pub fn packed_sheet(sheet: &Sheet) -> Sheet

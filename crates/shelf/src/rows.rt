@@ -12,10 +12,8 @@ pub type Row = Option<Sheet>;
 
 // The sheet of a row. A row that holds a figure or a count beyond its limit is one without a sheet.
 pub fn sheet_on(row: &Row) -> Option<&Sheet>
-    ensures { option_map (λ s. figures_of s.now) result ≡ sheet_on row.now }
+    ensures sheet { option_map (λ s. figures_of s.now) result ≡ sheet_on row.now }
+    ensures found { is_some result ≡ is_some (sheet_on row.now) }
 {
-    match row {
-        Some(sheet) if is_sheet(sheet) => Some(sheet),
-        _ => None,
-    }
+    row.as_ref().filter(|sheet| is_sheet(sheet))
 }

@@ -5,13 +5,13 @@ use borrow.Author.Rules.{get_or_read}
 use Rattle.std.proofs.lemmas.Result.{err_from_is_err_and}
 use Rattle.std.proofs.lemmas.Bool.{cond-true, cond-false}
 use Rattle.sheet.specs.Figures.{Figures, figures_of}
+use Rattle.shelf.specs.Packed.{packed_sheet}
 use Rattle.shelf.specs.Rows.{sheet_on}
 use Rattle.pricing.specs.Changes.{plain, changes_at}
 use Rattle.price_changes.specs.Changed.{changed_view}
 use Rattle.book.specs.Found.{changes_of}
 use Rattle.book.specs.Memory.{found}
 use Rattle.book.specs.declared.refusal.BookRefusal.TheVariants.{HistoryFull}
-use Rattle.book.proofs.Put.{mapped_mapped}
 use Rattle.book.proofs.Room.{refused, granted}
 use Rattle.book.proofs.filing.put_sheet.Goals as goal
 
@@ -20,11 +20,10 @@ returns-in_err-change_prices g c =
     let v = g.K.PriceHistory.view c.args.history.now in
     let rows = c.args.shelf.now in
     let spot = c.args.spot in
-    let new : Option Figures = option_map figures_of c.args.new.now in
+    let new : Option Figures = option_map (λ s. figures_of s.now) c.args.new in
     let old : option_map (λ s. figures_of s.now) c.sheet_on.result ≡ sheet_on (get_or rows spot.number None) = search (rules, get_or_read) in
     let at = changes_at spot.place.zone spot.place.day spot.place.period in
-    let newer : option_map (λ s. figures_of s.now) c.as_ref.result ≡ new = mapped_mapped (λ s. s.now) figures_of c.as_ref.result ∙ ap (option_map figures_of) c.as_ref.ensures.value in
-    let same : map plain c.price_changes-changes.result.list ≡ changes_of rows (found spot) new = c.price_changes-changes.ensures ∙ ap (λ o. at o (option_map (λ s. figures_of s.now) c.as_ref.result)) old ∙ ap (at (sheet_on (get_or rows spot.number None))) newer in
+    let same : map plain c.price_changes-changes.result.list ≡ changes_of rows (found spot) new = c.price_changes-changes.ensures ∙ ap (λ o. at o new) old in
     let r = refused v (g.K.PriceHistory.view c.change_prices.new.history) _ _ same _ c.in_err-change_prices.ensures.answer c.change_prices.ensures.after in
     let p = err_from_is_err_and c.from_residual.result c.from_residual.ensures.1 in
     let no : is_ok c.from_residual.result ≡ false = ap is_ok p.1 in
@@ -39,14 +38,14 @@ returns g c =
     let v = g.K.PriceHistory.view c.args.history.now in
     let rows = c.args.shelf.now in
     let spot = c.args.spot in
-    let new : Option Figures = option_map figures_of c.args.new.now in
+    let new : Option Figures = option_map (λ s. figures_of s.now) c.args.new in
     let old : option_map (λ s. figures_of s.now) c.sheet_on.result ≡ sheet_on (get_or rows spot.number None) = search (rules, get_or_read) in
     let at = changes_at spot.place.zone spot.place.day spot.place.period in
-    let newer : option_map (λ s. figures_of s.now) c.as_ref.result ≡ new = mapped_mapped (λ s. s.now) figures_of c.as_ref.result ∙ ap (option_map figures_of) c.as_ref.ensures.value in
-    let same : map plain c.price_changes-changes.result.list ≡ changes_of rows (found spot) new = c.price_changes-changes.ensures ∙ ap (λ o. at o (option_map (λ s. figures_of s.now) c.as_ref.result)) old ∙ ap (at (sheet_on (get_or rows spot.number None))) newer in
+    let same : map plain c.price_changes-changes.result.list ≡ changes_of rows (found spot) new = c.price_changes-changes.ensures ∙ ap (λ o. at o new) old in
+    let row : c.map.result ≡ option_map packed_sheet new = search rules in
     let r = granted v (g.K.PriceHistory.view c.change_prices.new.history) _ _ same c.in_ok-change_prices.ensures.answer c.change_prices.ensures.after in
     record {
       answer = sym (cond-false _ (Err HistoryFull) (Ok (tt {0})) r.room);
       history = r.changed;
-      rows = ap (set rows spot.number) c.packed_row.ensures;
+      rows = ap (set rows spot.number) row;
     }

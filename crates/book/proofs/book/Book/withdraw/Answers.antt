@@ -1,17 +1,15 @@
 -- The place, then its decade, then whether a sheet is in force.
 use Rattle.std.proofs.Common.{◌≡◌, cond, length, get_or, is_some, is_ok, None, Ok, Err, sym, ap, ◌∙◌, rules}
 use borrow.Author.Rules.{get_or_read}
-use Rattle.std.specs.Option.{option_map}
 use Rattle.std.proofs.lemmas.Result.{err_from_is_err_and}
 use Rattle.std.proofs.lemmas.Bool.{cond-false}
 use Rattle.register.specs.Rolls.{Roll}
-use Rattle.sheet.specs.Figures.{figures_of}
 use Rattle.shelf.specs.Rows.{sheet_on}
 use Rattle.price_changes.specs.Changed.{changed_view, overfull}
 use Rattle.book.specs.Found.{spot_checks, changes_of}
-use Rattle.book.specs.Memory.{Memory, standing, memory, found, number_in, sheet_at, with_sheet}
+use Rattle.book.specs.Memory.{Memory, standing, memory, found, number_in, with_sheet}
 use Rattle.book.specs.declared.refusal.BookRefusal.TheVariants.{HistoryFull}
-use Rattle.book.proofs.Put.{some_mapped, sheet_found, put_memory}
+use Rattle.book.proofs.Put.{in_force_at, put_memory}
 use Rattle.book.proofs.Struck.{room_to_strike}
 use Rattle.book.proofs.Verdicts.{passed_is}
 use Rattle.book.proofs.Withdrawn.{refused_after, front_refused, closed_refused, absent_refused, granted}
@@ -45,12 +43,11 @@ returns-then-is_none g c =
     let rows = c.args.shelf.now in
     let n = number_in b p in
     let spot = c.in_ok-spot.spot in
+    let front = spot_checks b (length rows) p in
     let passed = sym c.in_ok-spot.ensures.answer in
-    let is : found spot ≡ (p, n) = sym (passed_is (spot_checks b (length rows) p) (p, n) (found spot) passed) in
-    let old : option_map (λ s. figures_of s.now) c.sheet_on.result ≡ sheet_on (get_or rows spot.number None) = search (rules, get_or_read) in
-    let in_force : is_some (sheet_at b rows p) ≡ is_some c.sheet_on.result = sym (sym (some_mapped (λ s. figures_of s.now) c.sheet_on.result) ∙ ap is_some (old ∙ sheet_found b rows p (found spot) is)) in
-    let still_Open = sym c.if-is_closed.ensures in
-    let no = λ (roll : Roll). absent_refused (m roll) p (p, n) (found spot) passed still_Open (in_force ∙ c.if-is_none.ensures) in
+    let in_force = in_force_at b rows p front (found spot) (is_some c.sheet_on.result) passed (search (rules, get_or_read)) in
+    let still_open = sym c.if-is_closed.ensures in
+    let no = λ (roll : Roll). absent_refused (m roll) p (p, n) (found spot) passed still_open (in_force ∙ c.if-is_none.ensures) in
     record { answer = λ roll. sym (no roll); after = λ roll. refused_after (m roll) p _ (no roll) }
 
 pub returns : goal.returns
@@ -61,16 +58,16 @@ returns g c =
     let rows = c.args.shelf.now in
     let n = number_in b p in
     let spot = c.in_ok-spot.spot in
+    let front = spot_checks b (length rows) p in
     let passed = sym c.in_ok-spot.ensures.answer in
-    let is : found spot ≡ (p, n) = sym (passed_is (spot_checks b (length rows) p) (p, n) (found spot) passed) in
-    let old : option_map (λ s. figures_of s.now) c.sheet_on.result ≡ sheet_on (get_or rows spot.number None) = search (rules, get_or_read) in
-    let in_force : is_some (sheet_at b rows p) ≡ is_some c.sheet_on.result = sym (sym (some_mapped (λ s. figures_of s.now) c.sheet_on.result) ∙ ap is_some (old ∙ sheet_found b rows p (found spot) is)) in
-    let still_Open = sym c.if-is_closed.ensures in
+    let is : found spot ≡ (p, n) = sym (passed_is front (p, n) (found spot) passed) in
+    let in_force = in_force_at b rows p front (found spot) (is_some c.sheet_on.result) passed (search (rules, get_or_read)) in
+    let still_open = sym c.if-is_closed.ensures in
     let v = g.K.PriceHistory.view c.args.history.now in
     let place = spot.place in
     let room = room_to_strike v place.zone place.day place.period (sheet_on (get_or rows spot.number None)) (g.K.PriceHistory.within c.args.history.now) in
     let done : c.put_sheet.result ≡ Ok (tt {0}) = c.put_sheet.ensures.answer ∙ cond-false (overfull (changed_view v (changes_of rows (found spot) None))) (Err HistoryFull) (Ok (tt {0})) room in
-    let yes = λ (roll : Roll). granted (m roll) p (p, n) (found spot) passed still_Open (in_force ∙ c.if-is_none.ensures) in
+    let yes = λ (roll : Roll). granted (m roll) p (p, n) (found spot) passed still_open (in_force ∙ c.if-is_none.ensures) in
     record {
       answer = λ roll. done ∙ sym (yes roll);
       after = λ roll. put_memory (m roll) p None (found spot) (is_ok c.put_sheet.result) _ _ is c.put_sheet.ensures.history c.put_sheet.ensures.rows

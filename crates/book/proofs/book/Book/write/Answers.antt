@@ -1,17 +1,14 @@
 -- The place, then whether a sheet is in force there.
-use Rattle.std.proofs.Common.{◌≡◌, true, not, ltb, [], ◌∷◌, ◌++◌, length, get_or, drop, is_some, is_ok, None, Err, sym, ap, ◌∙◌, rules}
+use Rattle.std.proofs.Common.{◌≡◌, false, not, arith, ltb, [], ◌∷◌, ◌++◌, length, drop, is_some, is_ok, Err, sym, ap, ◌∙◌, rules}
 use borrow.Author.Rules.{get_or_read}
-use Rattle.std.specs.Option.{option_map}
 use Rattle.std.proofs.lemmas.Result.{err_from_is_err_and}
 use Rattle.std.proofs.lemmas.Bool.{cond-true, cond-false}
-use Rattle.sheet.specs.Figures.{figures_of}
-use Rattle.shelf.specs.Rows.{sheet_on}
 use Rattle.book.specs.Found.{spot_checks}
 use Rattle.book.specs.Memory.{standing, found, number_in, sheet_at}
 use Rattle.book.specs.Writing.{text_at, write_answer}
 use Rattle.book.specs.declared.refusal.BookRefusal.TheVariants.{NoSheet, OutputShort}
-use Rattle.book.proofs.Put.{some_mapped, sheet_found}
-use Rattle.book.proofs.Verdicts.{refused_front, passed_front, passed_is}
+use Rattle.book.proofs.Put.{in_force_at}
+use Rattle.book.proofs.Verdicts.{refused_front, passed_front}
 use Rattle.book.proofs.book.Book.write.Goals as goal
 
 pub returns-in_err-spot : goal.returns-in_err-spot
@@ -28,8 +25,8 @@ returns-in_err-spot c =
       output = sym (cond-false (is_ok (write_answer b rows p (length out))) (text ++ drop (length text) out) out (ap is_ok refused));
     }
 
-pub returns-in_default : goal.returns-in_default
-returns-in_default c =
+pub returns-in_err-sheet : goal.returns-in_err-sheet
+returns-in_err-sheet c =
     let b = standing c.args.self.now in
     let rows = c.args.shelf.now in
     let p = c.args.place in
@@ -38,12 +35,12 @@ returns-in_default c =
     let spot = c.in_ok-spot.spot in
     let front = spot_checks b (length rows) p in
     let passed = sym c.in_ok-spot.ensures.answer in
-    let is : found spot ≡ (p, n) = sym (passed_is front (p, n) (found spot) passed) in
-    let old : option_map (λ s. figures_of s.now) c.sheet_on.result ≡ sheet_on (get_or rows spot.number None) = search (rules, get_or_read) in
-    let none : not (is_some (sheet_at b rows p)) ≡ true = ap (λ t. not t) (sym (sym (some_mapped (λ s. figures_of s.now) c.sheet_on.result) ∙ ap is_some (old ∙ sheet_found b rows p (found spot) is)) ∙ ap is_some c.in_default.is) in
+    let in_force = in_force_at b rows p front (found spot) (is_some c.sheet_on.result) passed (search (rules, get_or_read)) in
+    let none : is_some c.sheet_on.result ≡ false = grind arith in
+    let why : c.from_residual-in_err-sheet.result ≡ Err NoSheet = grind arith in
     let text = text_at b rows p in
-    let refused = passed_front front ((not (is_some (sheet_at b rows p)), NoSheet) ∷ (ltb (length out) (length text), OutputShort) ∷ []) (p, n) (length text) (found spot) passed ∙ cond-true (not (is_some (sheet_at b rows p))) _ _ none in
+    let refused = passed_front front ((not (is_some (sheet_at b rows p)), NoSheet) ∷ (ltb (length out) (length text), OutputShort) ∷ []) (p, n) (length text) (found spot) passed ∙ cond-true (not (is_some (sheet_at b rows p))) _ _ (ap not (in_force ∙ none)) in
     record {
-      answer = sym refused;
+      answer = why ∙ sym refused;
       output = sym (cond-false (is_ok (write_answer b rows p (length out))) (text ++ drop (length text) out) out (ap is_ok refused));
     }
