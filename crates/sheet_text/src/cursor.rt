@@ -46,12 +46,12 @@ impl<'a> Cursor<'a> {
     {
         let first = self.line;
         let mut before = 0;
-        let mut found = Entries::empty(T::filler());
+        let mut found = Entries::empty(T::default());
         for index in 0..count {
             let fields = self.next_fields()?;
             let entry = T::of_fields(before, first + index, fields)?;
             before = entry.number();
-            found.push(entry);
+            found.push(entry).unwrap();
         }
         Ok(found)
     }

@@ -48,11 +48,11 @@ impl Draft {
         ensures { result.stage ≡ Period }
     {
         let sheet = Sheet {
-            day_ahead: Price { kop: 0 },
-            forced: PeriodVolume { kwh: 0 },
-            offers: Entries::empty(Offer::filler()),
-            units: Entries::empty(UnitLine::filler()),
-            groups: Entries::empty(GroupLine::filler()),
+            day_ahead: Price::default(),
+            forced: PeriodVolume::default(),
+            offers: Entries::empty(Offer::default()),
+            units: Entries::empty(UnitLine::default()),
+            groups: Entries::empty(GroupLine::default()),
         };
         let place = Place {
             zone: 1,

@@ -6,15 +6,13 @@ ghost use Rattle.sheet_text.specs.declared.faults.LineFault.{LineFault};
 use crate::faults::LineFault;
 use crate::fields::Fields;
 
-pub(crate) trait Entry: Sized + Copy {
+// Its default stands in the places that no entry has yet.
+pub(crate) trait Entry: Sized + Copy + Default {
     // what a line says behind an entry of the number given
     ghost says: { ℕ → ℕ → List (List ℕ) → Result Self LineFault };
 
     // the number that rises from entry to entry, or 0 where none has to
     ghost order: { Self → ℕ };
-
-    // Stands in the places that no entry has yet.
-    fn filler() -> Self;
 
     fn of_fields(before: u16, line: u32, fields: Fields<'_>) -> Result<Self, LineFault>
         ensures { result ≡ says before line (listing fields.entry) };

@@ -27,17 +27,6 @@ impl Entry for Offer {
 
     ghost counts = { λ _. eight_usual offer_line };
 
-    fn filler() -> Offer {
-        Offer {
-            quarter: 0,
-            direction: Direction::Up,
-            unit: 0,
-            volume: Volume { kwh: 0 },
-            price: Price { kop: 0 },
-            constrained: false,
-        }
-    }
-
     fn of_fields(_before: u16, line: u32, fields: Fields<'_>) -> Result<Offer, LineFault> {
         let Fields::Eight(quarter, direction, unit, volume, kwh, price, kop, constrained) = fields
         else {
@@ -74,14 +63,6 @@ impl Entry for UnitLine {
 
     ghost counts = { λ before. four_usual (unit_line before) };
 
-    fn filler() -> UnitLine {
-        UnitLine {
-            unit: 0,
-            direction: Direction::Up,
-            energy: Volume { kwh: 0 },
-        }
-    }
-
     fn of_fields(before: u16, line: u32, fields: Fields<'_>) -> Result<UnitLine, LineFault> {
         let Fields::Four(unit, direction, energy, kwh) = fields else {
             return Err(FaultKind::Layout.at(line, 0));
@@ -112,14 +93,6 @@ impl Entry for GroupLine {
     ghost order = { λ x. x.party };
 
     ghost counts = { λ before. four_usual (group_line before) };
-
-    fn filler() -> GroupLine {
-        GroupLine {
-            party: 0,
-            position: Position::Surplus,
-            imbalance: Volume { kwh: 0 },
-        }
-    }
 
     fn of_fields(before: u16, line: u32, fields: Fields<'_>) -> Result<GroupLine, LineFault> {
         let Fields::Four(party, position, imbalance, kwh) = fields else {
