@@ -12,7 +12,8 @@ use Rattle.sheet.specs.declared.lines.UnitLine.{UnitLine}
 use Rattle.sheet.specs.declared.lines.GroupLine.{GroupLine}
 use Rattle.sheet_laws.specs.Laws.{Between, OfferWithin, UnitWithin, GroupWithin, WithinLimits}
 use Rattle.sheet_text.specs.Reading.{Reported}
-use Rattle.shelf.specs.Packed.{packed, packed_sheet, no_offer, no_unit, no_group}
+use Rattle.shelf.specs.Packed.{packed, packed_sheet}
+use Rattle.sheet.specs.Fillers.{no_offer, no_unit, no_group}
 use Rattle.shelf.specs.Rows.{offer_within, unit_within, group_within, sheet_within, sheet_on}
 
 listed_packed : {T : Type 0} (N : ℕ) (filler : T) (xs : List T) → length xs ≤ N → listed (packed {N = N} filler xs) ≡ xs

@@ -1,28 +1,11 @@
 -- A sheet as it is put on the shelf: each unused place has the same filler.
-use Rattle.std.specs.Prelude.{◌≡◌, ℕ, false, List, ◌++◌, length, take, replicate, pos}
-use Rattle.std.proofs.Common.{lit≤, arith, length-take, length-append}
+use Rattle.std.specs.Prelude.{◌≡◌, ℕ, List, ◌++◌, length, take, replicate}
+use Rattle.std.proofs.Common.{arith, length-take, length-append}
 use Rattle.std.proofs.lemmas.List.{length-replicate}
-use Rattle.measures.specs.declared.volume.Volume.{Volume}
 use Rattle.sheet.specs.Figures.{Figures}
 use Rattle.sheet.specs.declared.entries.Entries.{Entries}
-use Rattle.sheet.specs.declared.lines.Direction.TheVariants.{Up}
-use Rattle.sheet.specs.declared.lines.Position.TheVariants.{Surplus}
-use Rattle.sheet.specs.declared.lines.Offer.{Offer}
-use Rattle.sheet.specs.declared.lines.UnitLine.{UnitLine}
-use Rattle.sheet.specs.declared.lines.GroupLine.{GroupLine}
+use Rattle.sheet.specs.Fillers.{no_offer, no_unit, no_group}
 use Rattle.sheet.specs.declared.report.Sheet.{Sheet}
-
-abbrev pub no_volume : Volume
-no_volume = record { kwh = 0; limited = lit≤ tt }
-
-abbrev pub no_offer : Offer
-no_offer = record { quarter = 0; direction = Up; unit = 0; volume = no_volume; price = record { kop = pos 0; limited = lit≤ tt }; constrained = false }
-
-abbrev pub no_unit : UnitLine
-no_unit = record { unit = 0; direction = Up; energy = no_volume }
-
-abbrev pub no_group : GroupLine
-no_group = record { party = 0; position = Surplus; imbalance = no_volume }
 
 module _ {T : Type 0} where
   -- the entries, and the filler in the places behind them
