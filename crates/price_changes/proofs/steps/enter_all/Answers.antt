@@ -1,6 +1,6 @@
 -- Each turn enters as the history answers.
 use Rattle.std.proofs.Common.{◌+◌, List, map, drop, sym, ap, ◌∙◌}
-use Rattle.std.proofs.lemmas.List.{at_drop_more, at_drop_all}
+use Rattle.std.proofs.lemmas.List.{at_drop_more}
 use Rattle.price_history.specs.Keys.{rank_of}
 use Rattle.price_history.specs.Views.{View}
 use Rattle.pricing.specs.Changes.{plain}
@@ -30,8 +30,3 @@ loop-change-preserved g c =
           ∙ ap (λ u. enters u rest) (sym (ap (enter_at v (rank_of item.key)) w.in_default.is))
           ∙ same ∙ sym more ∙ c.loop-change.invariant
     ]
-
-pub returns : goal.returns
-returns g c =
-    let v = g.K.PriceHistory.view c.loop-change.history in
-    sym (at_drop_all (from v) c.args.changes.now c.loop-change.change-index c.loop-change-test.false) ∙ c.loop-change.invariant

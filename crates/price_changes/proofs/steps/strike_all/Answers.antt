@@ -1,6 +1,6 @@
 -- Each turn strikes as the history answers.
 use Rattle.std.proofs.Common.{◌+◌, List, map, drop, sym, ap, ◌∙◌}
-use Rattle.std.proofs.lemmas.List.{at_drop_more, at_drop_all}
+use Rattle.std.proofs.lemmas.List.{at_drop_more}
 use Rattle.std.proofs.lemmas.Bool.{cond-true, cond-false}
 use Rattle.price_history.specs.Views.{View}
 use Rattle.pricing.specs.Changes.{plain}
@@ -31,8 +31,3 @@ loop-change-preserved g c =
           ∙ ap (λ u. strikes u rest) (sym (cond-false (touched (plain item)) _ v (sym c.touches.ensures ∙ w.if-touches.false)))
           ∙ same ∙ sym more ∙ c.loop-change.invariant
     ]
-
-pub returns : goal.returns
-returns g c =
-    let v = g.K.PriceHistory.view c.loop-change.history in
-    sym (at_drop_all (from v) c.args.changes.now c.loop-change.change-index c.loop-change-test.false) ∙ c.loop-change.invariant
