@@ -1,4 +1,5 @@
-// Volumes of electricity, by the span that they are for.
+// Volumes of electricity, by the span that they are for. Each span has a type of its own: one type with
+// the limit as its parameter would say no more plainly which volume is meant.
 ghost use Rattle.std.specs.Prelude.{◌≡◌, ◌≤◌};
 
 // The volume of an offer in its quarter of an hour, or of a unit's or a group's line, in kWh.

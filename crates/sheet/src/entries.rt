@@ -3,7 +3,8 @@ ghost use Rattle.std.specs.Prelude.{◌≡◌, length};
 
 use std::alloc::AllocError;
 
-// The first `len` of `items`. The count is plain data: past the places it stands for all of them.
+// The first `len` of `items`. The count is plain data: past the places it stands for all of them,
+// which an ArrayVec, whose count is within its places, could not say.
 // Proofs about any sheet read the number of places in `full`: a list in a definition has no length of its own.
 #[derive(Copy)]
 pub struct Entries<T, const N: usize> {
