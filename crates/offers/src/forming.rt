@@ -15,11 +15,10 @@ use sheet::report::Sheet;
 fn outer(direction: Direction, best: Price, price: Price) -> Price
     ensures { result ≡ outer direction best price }
 {
-    let farther = match direction {
-        Direction::Up => best.kop < price.kop,
-        Direction::Down => price.kop < best.kop,
-    };
-    if farther { price } else { best }
+    match direction {
+        Direction::Up => best.max(price),
+        Direction::Down => best.min(price),
+    }
 }
 
 impl Selection {
