@@ -1,6 +1,8 @@
 // Money.
 ghost use Rattle.std.specs.Prelude.{◌≡◌, ◌≤◌, ◌-ℤ◌, neg_ℤ, unsigned_abs};
+ghost use Rattle.measures.specs.Held.{held};
 
+use crate::amount::LIMIT;
 use std::ops::{Neg, Sub};
 
 // An amount of money, in thousandths of a kopeck: above zero a credit, below zero a debit.
@@ -21,17 +23,15 @@ impl Neg for Money {
     }
 }
 
-// How much more one amount is than another, where that is within the limit of an amount.
+// How much more one amount is than another; beyond the limit of an amount it is held there, as a sum is.
 impl Sub for Money {
     type Output = Money;
 
-    ghost can_sub = { λ money other. unsigned_abs (money.mkop -ℤ other.mkop) ≤ 1000000000000000000 };
-
-    ghost sub_gives = { λ money other rest. rest.mkop ≡ money.mkop -ℤ other.mkop };
+    ghost sub_gives = { λ money other rest. rest.mkop ≡ held (money.mkop -ℤ other.mkop) };
 
     fn sub(self, other: Money) -> Money {
         Money {
-            mkop: self.mkop - other.mkop,
+            mkop: (self.mkop - other.mkop).clamp(-LIMIT, LIMIT),
         }
     }
 }
