@@ -1,9 +1,8 @@
 -- How long the text of a priced period can be.
-use Rattle.std.proofs.Common.{ℕ, ◌+◌, ◌*◌, ◌^◌, ◌<◌, ◌≤◌, List, [], ◌∷◌, ◌++◌, length, ℤ, pos, negsuc, nat_abs, codes, decimal, le_refl, mul-le-mul, mul-suc, arith, length-append}
-use lib.Signed.{mag}
+use Rattle.std.proofs.Common.{ℕ, ◌+◌, ◌*◌, ◌^◌, ◌<◌, ◌≤◌, List, [], ◌∷◌, ◌++◌, length, ℤ, nat_abs, codes, decimal, le_refl, mul-le-mul, arith, length-append}
 use Rattle.std.specs.List.{flat_map, AllByRecursion}
 use Rattle.std.specs.Fmt.{signed_decimal}
-use Rattle.std.proofs.lemmas.Fmt.{length-decimal-le, length_signed_le}
+use Rattle.std.proofs.lemmas.Fmt.{length-decimal-le}
 use Rattle.text_buffer.proofs.Longest.{joined_length, signed_length}
 use Rattle.offers.specs.declared.span.State.{State}
 use Rattle.offers.specs.declared.span.State.TheVariants.{Deficit, Surplus, Balanced}
