@@ -28,34 +28,26 @@ pub(crate) fn put_state(page: &mut Page, state: State) -> Result<(), NoRoom>
 pub(crate) fn put_price(page: &mut Page, name: &[u8], price: Price) -> Result<(), NoRoom>
     ensures { IsPut (price_line name.now price.kop) page.old page.new result }
 {
-    page.put(name)?;
-    page.put_number(price.kop)?;
-    page.put(b" kop/MWh\n")
+    page.put_figure(name, price.kop, b" kop/MWh\n")
 }
 
 pub(crate) fn put_money(page: &mut Page, name: &[u8], money: Money) -> Result<(), NoRoom>
     ensures { IsPut (money_line name.now money.mkop) page.old page.new result }
 {
-    page.put(name)?;
-    page.put_number(money.mkop)?;
-    page.put(b" mkop\n")
+    page.put_figure(name, money.mkop, b" mkop\n")
 }
 
 pub(crate) fn put_count(page: &mut Page, name: &[u8], count: usize) -> Result<(), NoRoom>
     ensures { IsPut (count_line name.now count) page.old page.new result }
 {
-    page.put(name)?;
-    page.put_number(count)?;
-    page.put(b"\n")
+    page.put_figure(name, count, b"\n")
 }
 
 fn put_charge(page: &mut Page, number: u16, charge: Money) -> Result<(), NoRoom>
     ensures { IsPut (charge_line number charge.mkop) page.old page.new result }
 {
     page.put_number(number)?;
-    page.put(b" ")?;
-    page.put_number(charge.mkop)?;
-    page.put(b" mkop\n")
+    page.put_figure(b" ", charge.mkop, b" mkop\n")
 }
 
 pub(crate) fn put_charges<L: Charged>(

@@ -40,6 +40,7 @@ impl<const N: usize> TextBuffer<N> {
     }
 
     // Puts a label, a number in decimal and its unit. Where they do not fit, some of them may have been put.
+    // Not by `write!`, since what it promises does not say when a text does not fit.
     pub fn put_figure<I: Integer>(&mut self, label: &[u8], n: I, unit: &[u8]) -> Result<(), NoRoom>
         ensures { IsPut (label.now ++ (I.text n ++ unit.now)) self.old self.new result }
     {

@@ -9,5 +9,5 @@ returns-in_err-put_on g c =
     let text = λ (x : g.row.L.Denot). line (g.L.EntryText.fields x) in
     let x = c.entry-item.result in
     let refused : is_ok c.from_residual.result ≡ false = search rules in
-    each_refused text c.args.entries.now (written c.args.page.now) c.loop-entry.entry-index (written c.loop-entry.page) c.loop-entry.invariant 6556 x x
-    (written c.put_on.new.page) c.from_residual.result c.loop-entry-test.true c.entry-item.is refused c.in_err-put_on.ensures.fits
+    each_refused text c.args.entries.now (written c.args.page.now) c.loop-entry.entry-index (written c.loop-entry.page) 6556 x x (written c.put_on.new.page) c.from_residual.result
+    c.loop-entry.invariant c.loop-entry-test.true c.entry-item.is refused c.in_err-put_on.ensures.fits
