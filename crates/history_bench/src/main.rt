@@ -38,8 +38,8 @@ struct Asked {
 #[derive(Clone, Copy)]
 struct Counts {
     entered: usize,
-    found: u32,
-    struck: u32,
+    found: usize,
+    struck: usize,
     left: usize,
 }
 
@@ -72,13 +72,9 @@ fn enter<K: PriceKeeping>(history: &mut K, rank: u16) -> Option<()> {
 }
 
 fn finds<K: PriceKeeping>(history: &K, rank: u16) -> bool {
-    let Some(key) = key_at(rank) else {
-        return false;
-    };
-    let Some(price) = history.price_at(key) else {
-        return false;
-    };
-    price.kop == rank as i32
+    key_at(rank)
+        .and_then(|key| history.price_at(key))
+        .is_some_and(|price| price.kop == rank as i32)
 }
 
 fn strike<K: PriceKeeping>(history: &mut K, rank: u16) -> Option<Price> {
@@ -86,14 +82,17 @@ fn strike<K: PriceKeeping>(history: &mut K, rank: u16) -> Option<Price> {
 }
 
 // How many of the entries are found.
-fn find_all<K: PriceKeeping>(history: &K, entries: u32) -> u32 {
-    let mut found = 0;
-    for i in 0..entries {
-        if finds(history, shuffled(i)) {
-            found += 1;
-        }
-    }
-    found
+fn find_all<K: PriceKeeping>(history: &K, entries: u32) -> usize {
+    (0..entries)
+        .filter(|i| finds(history, shuffled(*i)))
+        .count()
+}
+
+// How many of the entries are struck.
+fn strike_all<K: PriceKeeping>(history: &mut K, entries: u32) -> usize {
+    (0..entries)
+        .filter_map(|i| strike(history, shuffled(i)))
+        .count()
 }
 
 fn run<K: PriceKeeping>(history: &mut K, asked: Asked) -> Counts {
@@ -105,12 +104,7 @@ fn run<K: PriceKeeping>(history: &mut K, asked: Asked) -> Counts {
     for _ in 0..asked.rounds {
         found = find_all(history, asked.entries);
     }
-    let mut struck = 0;
-    for i in 0..asked.entries {
-        if strike(history, shuffled(i)).is_some() {
-            struck += 1;
-        }
-    }
+    let struck = strike_all(history, asked.entries);
     Counts {
         entered,
         found,
@@ -121,19 +115,13 @@ fn run<K: PriceKeeping>(history: &mut K, asked: Asked) -> Counts {
 
 // A number that an argument has, or else another.
 fn number_or(text: Option<String>, other: u32) -> u32 {
-    match text {
-        Some(text) => text.parse::<u32>().unwrap_or(other),
-        None => other,
-    }
+    text.and_then(|text| text.parse().ok()).unwrap_or(other)
 }
 
 fn histories_named(name: Option<String>) -> Which {
-    let Some(name) = name else {
-        return Which::Both;
-    };
-    match name.as_str() {
-        "table" => Which::Table,
-        "list" => Which::List,
+    match name.as_deref() {
+        Some("table") => Which::Table,
+        Some("list") => Which::List,
         _ => Which::Both,
     }
 }

@@ -29,13 +29,9 @@ impl PriceHistory for Daily {
     }
 
     fn count(&self) -> usize {
-        let mut count: usize = 0;
-        for rank in 0..58_080 {
-            if self.at_rank(rank).is_some() {
-                count += 1;
-            }
-        }
-        count
+        (0..58_080)
+            .filter(|rank| self.at_rank(*rank).is_some())
+            .count()
     }
 
     fn greatest(&self) -> usize {

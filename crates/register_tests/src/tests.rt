@@ -1,15 +1,8 @@
 // The limits of the register, its order and its memory.
 use ordered_list::entry::Entry;
 use register::party::Party;
+use register::refusal::RegisterRefusal;
 use register::register::Register;
-
-// 0 where the unit was registered, else the number of the refusal.
-fn number_of(register: &mut Register<'_>, unit: u16, party: u16) -> u8 {
-    match register.register(unit, party) {
-        Ok(()) => 0,
-        Err(refusal) => refusal.number(),
-    }
-}
 
 fn old_entry() -> Entry<Party> {
     Entry {
@@ -23,25 +16,17 @@ fn units_and_parties_have_limits(rt: HostRuntime) {
     let mut memory = [old_entry(); 4];
     let mut register = Register::over(&mut memory);
     assert_eq!(rt;
-        (
-            number_of(&mut register, 0, 1),
-            number_of(&mut register, 1000, 1),
-        ),
-        (14, 14)
+        (register.register(0, 1), register.register(1000, 1)),
+        (Err(RegisterRefusal::Limits), Err(RegisterRefusal::Limits))
+    );
+    assert_eq!(rt; RegisterRefusal::Limits.number(), 14);
+    assert_eq!(rt;
+        (register.register(1, 0), register.register(1, 65)),
+        (Err(RegisterRefusal::Limits), Err(RegisterRefusal::Limits))
     );
     assert_eq!(rt;
-        (
-            number_of(&mut register, 1, 0),
-            number_of(&mut register, 1, 65),
-        ),
-        (14, 14)
-    );
-    assert_eq!(rt;
-        (
-            number_of(&mut register, 1, 64),
-            number_of(&mut register, 999, 1),
-        ),
-        (0, 0)
+        (register.register(1, 64), register.register(999, 1)),
+        (Ok(()), Ok(()))
     );
     assert_eq!(rt;
         (register.party_of(1), register.party_of(999)),
@@ -62,27 +47,23 @@ fn refusals_come_in_order(rt: HostRuntime) {
     let mut memory = [old_entry(); 2];
     let mut register = Register::over(&mut memory);
     assert_eq!(rt;
-        (
-            number_of(&mut register, 7, 3),
-            number_of(&mut register, 7, 65),
-        ),
-        (0, 14)
+        (register.register(7, 3), register.register(7, 65)),
+        (Ok(()), Err(RegisterRefusal::Limits))
     );
     assert_eq!(rt;
-        (
-            number_of(&mut register, 7, 4),
-            number_of(&mut register, 6, 4),
-        ),
-        (9, 0)
+        (register.register(7, 4), register.register(6, 4)),
+        (Err(RegisterRefusal::Present), Ok(()))
     );
+    assert_eq!(rt; RegisterRefusal::Present.number(), 9);
     assert_eq!(rt;
-        (
-            number_of(&mut register, 8, 5),
-            number_of(&mut register, 7, 5),
-        ),
-        (11, 9)
+        (register.register(8, 5), register.register(7, 5)),
+        (Err(RegisterRefusal::Full), Err(RegisterRefusal::Present))
     );
-    assert_eq!(rt; (number_of(&mut register, 8, 0), register.count()), (14, 2));
+    assert_eq!(rt; RegisterRefusal::Full.number(), 11);
+    assert_eq!(rt;
+        (register.register(8, 0), register.count()),
+        (Err(RegisterRefusal::Limits), 2)
+    );
     assert_eq!(rt;
         (
             register.party_of(6),
@@ -108,11 +89,8 @@ fn a_register_without_places_refuses(rt: HostRuntime) {
     let mut memory = [old_entry(); 0];
     let mut register = Register::over(&mut memory);
     assert_eq!(rt;
-        (
-            number_of(&mut register, 1, 1),
-            number_of(&mut register, 0, 1),
-        ),
-        (11, 14)
+        (register.register(1, 1), register.register(0, 1)),
+        (Err(RegisterRefusal::Full), Err(RegisterRefusal::Limits))
     );
     assert_eq!(rt;
         (register.count(), register.places(), register.party_of(1)),
@@ -126,7 +104,7 @@ fn units_are_found_however_they_came(rt: HostRuntime) {
     let mut register = Register::over(&mut memory);
     for i in 0..16 {
         let unit = i * 7 % 16 + 1;
-        assert_eq!(rt; number_of(&mut register, unit, unit + 1), 0);
+        assert_eq!(rt; register.register(unit, unit + 1), Ok(()));
     }
     for unit in 1..17 {
         assert_eq!(rt; register.party_of(unit), Some(unit + 1));
