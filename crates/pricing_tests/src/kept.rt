@@ -31,8 +31,8 @@ fn enter<K: PriceKeeping>(history: &mut K, series: Series, day: u16, kop: i64) -
 // The marginal price up of each of the ninety days before the month is the number of the day, and the
 // limit price down is that below zero. All are entered, or all are refused.
 fn ninety_days<K: PriceKeeping>(rt: &impl Abort, history: &mut K, entered: bool) {
-    for day in 1..91 {
-        let kop = day as i64;
+    for day in 1..=90 {
+        let kop = i64::from(day);
         assert_eq!(rt; enter(history, Series::MarginalUp, day, kop), Some(entered));
         assert_eq!(rt; enter(history, Series::LimitDown, day, -kop), Some(entered));
     }

@@ -20,9 +20,7 @@ pub(crate) const AT_DAY_AHEAD: &[u8] =
     b"DEFICIT\nIMSP 150 kop/MWh\nUP 150 kop/MWh\nDOWN 100 kop/MWh\nUNITS 1\n7 300000 mkop\nA-A -300000 mkop\nGROUPS 0\nA-B 0 mkop\nEND\n";
 
 fn state_of(text: &[u8], span: Span) -> Option<State> {
-    let Ok(report) = read(text) else {
-        return None;
-    };
+    let report = read(text).ok()?;
     Some(zone_state(&report.sheet, span))
 }
 
@@ -34,13 +32,11 @@ pub(crate) fn prices_as<H: PriceHistory>(
     expected: &[u8],
 ) -> Result<(), Fail> {
     let mut out = [b'.'; 1024];
-    let Ok(length) = price_text(history, text, &mut out) else {
-        return Err(Fail::new("the text is refused"));
-    };
+    let length = price_text(history, text, &mut out).map_err(|_| Fail::new("the text is refused"))?;
     assert_eq!(rt; length, expected.len());
     assert!(rt; length < 1024);
     assert!(rt; &out[0..length] == expected);
-    assert!(rt; out[length] == b'.');
+    assert_eq!(rt; out[length], b'.');
     Ok(())
 }
 
@@ -48,9 +44,9 @@ pub(crate) fn prices_as<H: PriceHistory>(
 fn forced_reduction_is_of_the_whole_period(rt: HostRuntime) {
     let text =
         b"PERIOD 1 1 1\nDAM 1 kop/MWh\nFORCED 1200 kWh H\nOFFERS 2\n1 U 1 2000 kWh 1 kop/MWh -\n1 D 1 2500 kWh 1 kop/MWh -\nUNITS 0\nGROUPS 0\nEND\n";
-    assert!(rt; state_of(text, Span::Quarter(1)) == Some(State::Surplus));
-    assert!(rt; state_of(text, Span::Quarter(2)) == Some(State::Deficit));
-    assert!(rt; state_of(text, Span::Period) == Some(State::Deficit));
+    assert_eq!(rt; state_of(text, Span::Quarter(1)), Some(State::Surplus));
+    assert_eq!(rt; state_of(text, Span::Quarter(2)), Some(State::Deficit));
+    assert_eq!(rt; state_of(text, Span::Period), Some(State::Deficit));
 }
 
 #[test]
