@@ -1,5 +1,5 @@
 // Sheets with figures within their limits.
-ghost use Rattle.std.specs.Prelude.{◌<◌};
+ghost use Rattle.std.specs.Prelude.{◌<◌, ◌≤◌, ℕ};
 
 use crate::numbers::Numbers;
 use measures::price::Price;
@@ -74,28 +74,19 @@ fn any_group(numbers: &mut Numbers, index: u16) -> GroupLine
     }
 }
 
-fn any_offers(numbers: &mut Numbers) -> Entries<Offer, 24> {
-    let mut offers = Entries::empty(any_offer(numbers));
-    for _ in 0..numbers.below(25) {
-        let _ = offers.push(any_offer(numbers));
+// A list of any number of entries, each made with its index.
+fn any_entries<T: Copy, const N: usize, F: Fn(&mut Numbers, u16) -> T>(
+    numbers: &mut Numbers,
+    any_entry: F,
+) -> Entries<T, N>
+    requires few { (0 < N) × (N ≤ 24) }
+    requires callable { (x : _) (i : ℕ) → i < N → F.pre any_entry x i }
+{
+    let mut entries = Entries::empty(any_entry(numbers, 0));
+    for index in 0..numbers.below(N as u32 + 1) as u16 {
+        let _ = entries.push(any_entry(numbers, index));
     }
-    offers
-}
-
-fn any_units(numbers: &mut Numbers) -> Entries<UnitLine, 16> {
-    let mut units = Entries::empty(any_unit(numbers, 0));
-    for index in 0..numbers.below(17) as u16 {
-        let _ = units.push(any_unit(numbers, index));
-    }
-    units
-}
-
-fn any_groups(numbers: &mut Numbers) -> Entries<GroupLine, 16> {
-    let mut groups = Entries::empty(any_group(numbers, 0));
-    for index in 0..numbers.below(17) as u16 {
-        let _ = groups.push(any_group(numbers, index));
-    }
-    groups
+    entries
 }
 
 pub(crate) fn any_sheet(numbers: &mut Numbers) -> Sheet {
@@ -103,8 +94,8 @@ pub(crate) fn any_sheet(numbers: &mut Numbers) -> Sheet {
     Sheet {
         day_ahead: any_price(numbers),
         forced: PeriodVolume { kwh },
-        offers: any_offers(numbers),
-        units: any_units(numbers),
-        groups: any_groups(numbers),
+        offers: any_entries(numbers, |numbers: &mut Numbers, _: u16| any_offer(numbers)),
+        units: any_entries(numbers, any_unit),
+        groups: any_entries(numbers, any_group),
     }
 }

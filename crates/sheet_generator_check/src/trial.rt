@@ -46,7 +46,7 @@ pub(crate) fn try_all() -> Tally {
         let sheet = any_sheet(&mut numbers);
         if let Some((length, same)) = round_trip(place, &sheet) {
             tally.sheets += 1;
-            tally.same += same as u32;
+            tally.same += u32::from(same);
             tally.bytes += length as u64;
         }
     }

@@ -1,4 +1,5 @@
 // Texts of sheets, made from one that is right.
+use sheet_text::faults::Section;
 use std::alloc::{AllocError, Global};
 
 const GOOD: [&str; 13] = [
@@ -18,13 +19,13 @@ const GOOD: [&str; 13] = [
 ];
 
 // The section of a line of the sheet, or of what is put behind it.
-pub(crate) fn section_of(line: u32) -> &'static str {
+pub(crate) fn section_of(line: u32) -> Section {
     match line {
-        0..=3 => "HEAD",
-        4..=6 => "OFFERS",
-        7..=9 => "UNITS",
-        10..=12 => "GROUPS",
-        _ => "END",
+        0..=3 => Section::Head,
+        4..=6 => Section::Offers,
+        7..=9 => Section::Units,
+        10..=12 => Section::Groups,
+        _ => Section::End,
     }
 }
 
@@ -32,12 +33,8 @@ pub(crate) fn section_of(line: u32) -> &'static str {
 pub(crate) fn with_line(heap: Global, number: u32, line: &str) -> Result<String, AllocError> {
     let mut text = String::new(heap);
     for (index, good) in GOOD.iter().enumerate() {
-        let line = if index + 1 == number as usize {
-            line
-        } else {
-            *good
-        };
-        text.push_str(line)?;
+        let replaced = index + 1 == number as usize;
+        text.push_str(if replaced { line } else { *good })?;
         text.push_str("\n")?;
     }
     Ok(text)
@@ -46,11 +43,9 @@ pub(crate) fn with_line(heap: Global, number: u32, line: &str) -> Result<String,
 // The first lines of the sheet, with what is put behind them.
 pub(crate) fn front(heap: Global, count: u32, behind: &str) -> Result<String, AllocError> {
     let mut text = String::new(heap);
-    for (index, good) in GOOD.iter().enumerate() {
-        if index < count as usize {
-            text.push_str(*good)?;
-            text.push_str("\n")?;
-        }
+    for good in GOOD.iter().take(count as usize) {
+        text.push_str(*good)?;
+        text.push_str("\n")?;
     }
     text.push_str(behind)?;
     Ok(text)
@@ -58,33 +53,9 @@ pub(crate) fn front(heap: Global, count: u32, behind: &str) -> Result<String, Al
 
 // The first lines of the sheet, the last of them without its line end.
 pub(crate) fn cut_short(heap: Global, count: u32) -> Result<String, AllocError> {
-    let mut text = String::new(heap);
-    for (index, good) in GOOD.iter().enumerate() {
-        if index < count as usize {
-            if index > 0 {
-                text.push_str("\n")?;
-            }
-            text.push_str(*good)?;
-        }
-    }
+    let mut text = front(heap, count, "")?;
+    text.pop();
     Ok(text)
-}
-
-// The lines of units 10 to 25 and of parties 49 to 64 begin so.
-const UNITS: [&str; 16] = [
-    "10", "11", "12", "13", "14", "15", "16", "17", "18", "19", "20", "21", "22", "23", "24", "25",
-];
-
-const PARTIES: [&str; 16] = [
-    "49", "50", "51", "52", "53", "54", "55", "56", "57", "58", "59", "60", "61", "62", "63", "64",
-];
-
-fn push_all(text: &mut String, numbers: &[&str], rest: &str) -> Result<(), AllocError> {
-    for number in numbers {
-        text.push_str(*number)?;
-        text.push_str(rest)?;
-    }
-    Ok(())
 }
 
 // A sheet with as many entries as there may be, and its last line.
@@ -95,9 +66,13 @@ pub(crate) fn full(heap: Global, last: &str) -> Result<String, AllocError> {
         text.push_str("4 D 999 1 kWh -1 kop/MWh C\n")?;
     }
     text.push_str("UNITS 16\n")?;
-    push_all(&mut text, &UNITS, " U 0 kWh\n")?;
+    for unit in 10..26 {
+        writeln!(text, "{unit} U 0 kWh")?;
+    }
     text.push_str("GROUPS 16\n")?;
-    push_all(&mut text, &PARTIES, " + 0 kWh\n")?;
+    for party in 49..65 {
+        writeln!(text, "{party} + 0 kWh")?;
+    }
     text.push_str(last)?;
     Ok(text)
 }

@@ -38,12 +38,7 @@ fn written_back(rt: &impl Abort, name: &str, text: &[u8], out: &mut [u8]) -> Res
 }
 
 fn all_dots(bytes: &[u8]) -> bool {
-    for byte in bytes {
-        if *byte != b'.' {
-            return false;
-        }
-    }
-    true
+    bytes.iter().all(|byte| *byte == b'.')
 }
 
 #[test]
@@ -107,15 +102,13 @@ fn numbers_beyond_their_limits_are_written(rt: HostRuntime) -> Result<(), Fail> 
         return Err(Fail::new("the text is refused"));
     };
     let mut sheet = report.sheet;
-    let mut units = sheet.units;
     assert!(rt;
-        units.push(UnitLine {
+        sheet.units.push(UnitLine {
             unit: 65_535,
             direction: Direction::Down,
             energy: Volume { kwh: 0 },
         })
     );
-    sheet.units = units;
     writes(&rt, report.place, &sheet, UNIT_BEYOND.as_bytes())
 }
 
@@ -126,8 +119,6 @@ fn a_count_beyond_the_places_stands_for_all(rt: HostRuntime) -> Result<(), Fail>
         return Err(Fail::new("the text is refused"));
     };
     let mut sheet = report.sheet;
-    let mut units = sheet.units;
-    units.len = 17;
-    sheet.units = units;
+    sheet.units.len = 17;
     writes(&rt, report.place, &sheet, text.as_bytes())
 }

@@ -39,16 +39,9 @@ pub const LENGTHY: Figures = Figures {
     imbalance: "+ 1000000",
 };
 
-fn push_sixteen(
-    heap: Global,
-    text: &mut String,
-    first: u16,
-    figure: &str,
-) -> Result<(), AllocError> {
-    for step in 0..16u16 {
-        let number = first.wrapping_add(step);
-        let line = format!(in heap; "{number} {figure} kWh\n")?;
-        text.push_str(line.as_str())?;
+fn push_sixteen(text: &mut String, first: u16, figure: &str) -> Result<(), AllocError> {
+    for number in first..first.saturating_add(16) {
+        writeln!(text, "{number} {figure} kWh")?;
     }
     Ok(())
 }
@@ -61,9 +54,9 @@ pub(crate) fn full(heap: Global, figures: Figures) -> Result<String, AllocError>
         text.push_str(figures.offer)?;
     }
     text.push_str("UNITS 16\n")?;
-    push_sixteen(heap, &mut text, figures.unit, figures.energy)?;
+    push_sixteen(&mut text, figures.unit, figures.energy)?;
     text.push_str("GROUPS 16\n")?;
-    push_sixteen(heap, &mut text, figures.party, figures.imbalance)?;
+    push_sixteen(&mut text, figures.party, figures.imbalance)?;
     text.push_str("END\n")?;
     Ok(text)
 }
