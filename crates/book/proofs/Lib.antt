@@ -1,5 +1,3 @@
-pub mod Decades
-pub mod Entered
 pub mod Put
 pub mod Room
 pub mod Struck

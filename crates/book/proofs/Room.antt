@@ -1,6 +1,6 @@
 -- A sheet is put where the history has room for its prices.
 use Rattle.std.proofs.Common.{◌≡◌, Bool, true, false, cond, List, is_ok, Ok, Err, sym, refl, ap, ◌∙◌}
-use Rattle.std.proofs.lemmas.Bool.{cond-true, cond-false}
+use Rattle.std.proofs.lemmas.Bool.{cond-true}
 use Rattle.price_history.specs.Views.{View}
 use Rattle.pricing.specs.Changes.{Change}
 use Rattle.price_changes.specs.Changed.{changed_view, overfull, change_answer, change_after}
@@ -17,17 +17,8 @@ room_from_ok true h = ok_err (tt {0}) Full h
 room_from_ok false h = refl
 
 module _ (v u : View) (cs ds : List Change) (same : cs ≡ ds) where
-  pub record Refused : Type 0 where
-    pub full : overfull (changed_view v ds) ≡ true
-    pub kept : u ≡ v
-
-  pub refused : (e : ChangeRefusal) → Err e ≡ change_answer v cs → u ≡ change_after v cs → Refused
-  refused e answer after =
-      let full = full_from_err (overfull (changed_view v cs)) e answer in
-      record {
-        full = ap (λ l. overfull (changed_view v l)) (sym same) ∙ full;
-        kept = after ∙ cond-false (is_ok (change_answer v cs)) (changed_view v cs) v (ap is_ok (sym answer));
-      }
+  pub full : (e : ChangeRefusal) → Err e ≡ change_answer v cs → overfull (changed_view v ds) ≡ true
+  full e answer = ap (λ l. overfull (changed_view v l)) (sym same) ∙ full_from_err (overfull (changed_view v cs)) e answer
 
   pub record Granted : Type 0 where
     pub room : overfull (changed_view v ds) ≡ false

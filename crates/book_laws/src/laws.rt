@@ -1,26 +1,22 @@
 // What holds of the calls that change a book.
 ghost use Rattle.book_laws.specs.Laws.{KeysBelongToOnePlace, FilingEntersWhatForms, WithdrawingGivesBack, ReplacingByItselfAltersNothing};
 
-pub fn keys_belong_to_one_place() -> u8
+#[tactic(auto, using(crate::proofs::Belongs::keys_belong))]
+pub fn keys_belong_to_one_place()
     ensures { KeysBelongToOnePlace }
-{
-    0
-}
+{}
 
-pub fn filing_enters_what_forms() -> u8
+#[tactic(auto, using(crate::proofs::Filed::filed))]
+pub fn filing_enters_what_forms()
     ensures { FilingEntersWhatForms }
-{
-    0
-}
+{}
 
-pub fn withdrawing_gives_back() -> u8
+#[tactic(auto, using(crate::proofs::Undone::withdrawn))]
+pub fn withdrawing_gives_back()
     ensures { WithdrawingGivesBack }
-{
-    0
-}
+{}
 
-pub fn replacing_by_itself_alters_nothing() -> u8
+#[tactic(auto, using(crate::proofs::Undone::replaced))]
+pub fn replacing_by_itself_alters_nothing()
     ensures { ReplacingByItselfAltersNothing }
-{
-    0
-}
+{}

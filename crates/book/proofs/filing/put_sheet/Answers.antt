@@ -1,5 +1,5 @@
 -- The history is changed before the row is put.
-use Rattle.std.proofs.Common.{◌≡◌, false, map, get_or, set, is_ok, None, Ok, Err, Option, sym, ap, ◌∙◌, rules}
+use Rattle.std.proofs.Common.{◌≡◌, map, get_or, set, None, Ok, Err, Option, sym, ap, ◌∙◌, rules}
 use Rattle.std.specs.Option.{option_map}
 use borrow.Author.Rules.{get_or_read}
 use Rattle.std.proofs.lemmas.Result.{err_from_is_err_and}
@@ -8,15 +8,14 @@ use Rattle.sheet.specs.Figures.{Figures, figures_of}
 use Rattle.shelf.specs.Packed.{packed_sheet}
 use Rattle.shelf.specs.Rows.{sheet_on}
 use Rattle.pricing.specs.Changes.{plain, changes_at}
-use Rattle.price_changes.specs.Changed.{changed_view}
 use Rattle.book.specs.Found.{changes_of}
 use Rattle.book.specs.Memory.{found}
 use Rattle.book.specs.declared.refusal.BookRefusal.TheVariants.{HistoryFull}
-use Rattle.book.proofs.Room.{refused, granted}
+use Rattle.book.proofs.Room.{full, granted}
 use Rattle.book.proofs.filing.put_sheet.Goals as goal
 
-pub returns-in_err-change_prices : goal.returns-in_err-change_prices
-returns-in_err-change_prices g c =
+pub returns-in_err-change_prices-clause-answer : goal.returns-in_err-change_prices-clause-answer
+returns-in_err-change_prices-clause-answer g c =
     let v = g.K.PriceHistory.view c.args.history.now in
     let rows = c.args.shelf.now in
     let spot = c.args.spot in
@@ -24,14 +23,9 @@ returns-in_err-change_prices g c =
     let old : option_map (λ s. figures_of s.now) c.sheet_on.result ≡ sheet_on (get_or rows spot.number None) = search (rules, get_or_read) in
     let at = changes_at spot.place.zone spot.place.day spot.place.period in
     let same : map plain c.price_changes-changes.result.list ≡ changes_of rows (found spot) new = c.price_changes-changes.ensures ∙ ap (λ o. at o new) old in
-    let r = refused v (g.K.PriceHistory.view c.change_prices.new.history) _ _ same _ c.in_err-change_prices.ensures.answer c.change_prices.ensures.after in
+    let no_room = full v (g.K.PriceHistory.view c.change_prices.new.history) _ _ same _ c.in_err-change_prices.ensures.answer in
     let p = err_from_is_err_and c.from_residual.result c.from_residual.ensures.1 in
-    let no : is_ok c.from_residual.result ≡ false = ap is_ok p.1 in
-    record {
-      answer = p.1 ∙ ap (λ e. Err e) p.2 ∙ sym (cond-true _ (Err HistoryFull) (Ok (tt {0})) r.full);
-      history = r.kept ∙ sym (cond-false (is_ok c.from_residual.result) (changed_view v (changes_of rows (found spot) new)) v no);
-      rows = sym (cond-false (is_ok c.from_residual.result) _ rows no);
-    }
+    p.1 ∙ ap (λ e. Err e) p.2 ∙ sym (cond-true _ (Err HistoryFull) (Ok (tt {0})) no_room)
 
 pub returns : goal.returns
 returns g c =

@@ -1,7 +1,6 @@
 -- The place, then its decade, then whether a sheet is in force.
 use Rattle.std.proofs.Common.{◌≡◌, cond, length, get_or, is_some, is_ok, None, Ok, Err, sym, ap, ◌∙◌, rules}
 use borrow.Author.Rules.{get_or_read}
-use Rattle.std.proofs.lemmas.Result.{err_from_is_err_and}
 use Rattle.std.proofs.lemmas.Bool.{cond-false}
 use Rattle.register.specs.Rolls.{Roll}
 use Rattle.shelf.specs.Rows.{sheet_on}
@@ -12,43 +11,8 @@ use Rattle.book.specs.declared.refusal.BookRefusal.TheVariants.{HistoryFull}
 use Rattle.book.proofs.Put.{in_force_at, put_memory}
 use Rattle.book.proofs.Struck.{room_to_strike}
 use Rattle.book.proofs.Verdicts.{passed_is}
-use Rattle.book.proofs.Withdrawn.{refused_after, front_refused, closed_refused, absent_refused, granted}
+use Rattle.book.proofs.Withdrawn.{granted}
 use Rattle.book.proofs.book.Book.withdraw.Goals as goal
-
-pub returns-in_err-spot : goal.returns-in_err-spot
-returns-in_err-spot g c =
-    let m : Roll → Memory = λ roll. memory c.args.self.now (g.K.PriceHistory.view c.args.history.now) roll c.args.shelf.now in
-    let p = c.args.place in
-    let e = err_from_is_err_and c.from_residual.result c.from_residual.ensures.1 in
-    let no = λ (roll : Roll). front_refused (m roll) p _ _ (sym c.in_err-spot.ensures.answer) in
-    record { answer = λ roll. e.1 ∙ ap (λ x. Err x) e.2 ∙ sym (no roll); after = λ roll. refused_after (m roll) p _ (no roll) }
-
-pub returns-then-is_closed : goal.returns-then-is_closed
-returns-then-is_closed g c =
-    let m : Roll → Memory = λ roll. memory c.args.self.now (g.K.PriceHistory.view c.args.history.now) roll c.args.shelf.now in
-    let p = c.args.place in
-    let b = standing c.args.self.now in
-    let rows = c.args.shelf.now in
-    let n = number_in b p in
-    let spot = c.in_ok-spot.spot in
-    let passed = sym c.in_ok-spot.ensures.answer in
-    let no = λ (roll : Roll). closed_refused (m roll) p (p, n) (found spot) passed (sym c.if-is_closed.ensures) in
-    record { answer = λ roll. sym (no roll); after = λ roll. refused_after (m roll) p _ (no roll) }
-
-pub returns-then-is_none : goal.returns-then-is_none
-returns-then-is_none g c =
-    let m : Roll → Memory = λ roll. memory c.args.self.now (g.K.PriceHistory.view c.args.history.now) roll c.args.shelf.now in
-    let p = c.args.place in
-    let b = standing c.args.self.now in
-    let rows = c.args.shelf.now in
-    let n = number_in b p in
-    let spot = c.in_ok-spot.spot in
-    let front = spot_checks b (length rows) p in
-    let passed = sym c.in_ok-spot.ensures.answer in
-    let in_force = in_force_at b rows p front (found spot) (is_some c.sheet_on.result) passed (search (rules, get_or_read)) in
-    let still_open = sym c.if-is_closed.ensures in
-    let no = λ (roll : Roll). absent_refused (m roll) p (p, n) (found spot) passed still_open (in_force ∙ c.if-is_none.ensures) in
-    record { answer = λ roll. sym (no roll); after = λ roll. refused_after (m roll) p _ (no roll) }
 
 pub returns : goal.returns
 returns g c =
