@@ -1,7 +1,8 @@
 -- The text of a priced sheet within its limits is at most 935 bytes long.
-use Rattle.std.proofs.Common.{ℕ, suc, ◌*◌, ◌≤◌, Bool, true, false, cond, List, [], ◌∷◌, ◌++◌, length, ℤ, pos, negsuc, ◌-ℤ◌, ◌*ℤ◌, neg_ℤ, nat_abs, codes, ap, mul-suc, arith, length-append}
+use Rattle.std.proofs.Common.{ℕ, suc, ◌*◌, ◌≤◌, Bool, true, false, cond, List, [], ◌∷◌, ◌++◌, length, ℤ, pos, negsuc, ◌-ℤ◌, ◌*ℤ◌, neg_ℤ, nat_abs, codes, ap, sum_by, arith, length-append}
 use borrow.Author.Differences.{ints}
 use Rattle.std.specs.List.{AllByRecursion}
+use Rattle.std.proofs.lemmas.List.Sums.{sum_by-cons}
 use Rattle.measures.proofs.Products.{product_within, times_neg}
 use Rattle.sheet.specs.Sides.{one_way, one_side}
 use Rattle.sheet.specs.Figures.{Figures}
@@ -14,7 +15,7 @@ use Rattle.sheet.specs.declared.lines.Position.TheVariants.{Surplus, Shortage}
 use Rattle.offers.specs.declared.span.State.{State}
 use Rattle.pricing.specs.Prices.{Settled}
 use Rattle.charges.specs.Charges.{unit_charge, group_charge}
-use Rattle.charges.specs.Totals.{summed, energy_in, imbalance_in, zone_totals}
+use Rattle.charges.specs.Totals.{energy_in, imbalance_in, zone_totals}
 use Rattle.charges.specs.Accounts.{units_account, groups_account}
 use Rattle.priced_text.specs.Laws.{Listed}
 use Rattle.priced_text.specs.Lines.{state_line}
@@ -53,13 +54,13 @@ part_within : (b : Bool) (n most : ℕ) → n ≤ most → cond b n 0 ≤ most
 part_within true n most h = h
 part_within false n most h = omega arith
 
-energy_within : (d : Direction) (ls : List UnitLine) → summed (energy_in d) ls ≤ 1000000 * length ls
+energy_within : (d : Direction) (ls : List UnitLine) → sum_by (energy_in d) ls ≤ 1000000 * length ls
 energy_within d [] = omega arith
-energy_within d (x ∷ xs) = omega (arith, energy_within d xs, mul-suc 1000000 (length xs), part_within (one_way x.direction d) x.energy.kwh 1000000 x.energy.limited)
+energy_within d (x ∷ xs) = omega (arith, sum_by-cons (energy_in d) x xs, energy_within d xs, part_within (one_way x.direction d) x.energy.kwh 1000000 x.energy.limited)
 
-imbalance_within : (s : Position) (ls : List GroupLine) → summed (imbalance_in s) ls ≤ 1000000 * length ls
+imbalance_within : (s : Position) (ls : List GroupLine) → sum_by (imbalance_in s) ls ≤ 1000000 * length ls
 imbalance_within s [] = omega arith
-imbalance_within s (x ∷ xs) = omega (arith, imbalance_within s xs, mul-suc 1000000 (length xs), part_within (one_side x.position s) x.imbalance.kwh 1000000 x.imbalance.limited)
+imbalance_within s (x ∷ xs) = omega (arith, sum_by-cons (imbalance_in s) x xs, imbalance_within s xs, part_within (one_side x.position s) x.imbalance.kwh 1000000 x.imbalance.limited)
 
 -- the size of a price times a difference of volumes
 difference_size : (p : ℤ) (m n : ℕ) → nat_abs p ≤ 10000000 → m ≤ 16000000 → n ≤ 16000000 → nat_abs (neg_ℤ (p *ℤ (pos m -ℤ pos n))) ≤ 320000000000000
@@ -75,14 +76,14 @@ difference_size p m n h hm hn =
 module _ (p : Settled) (s : Figures) (l : Limited p) (h : Listed s) where
   units_account_size : nat_abs (units_account p (zone_totals s)) ≤ 320000000000000
   units_account_size =
-      let up = product_within 10000000 16000000 p.up (summed (energy_in Up) s.units) l.up (let few = h.few_units in omega (arith, energy_within Up s.units)) in
-      let down = product_within 10000000 16000000 p.down (summed (energy_in Down) s.units) l.down (let few = h.few_units in omega (arith, energy_within Down s.units)) in
+      let up = product_within 10000000 16000000 p.up (sum_by (energy_in Up) s.units) l.up (let few = h.few_units in omega (arith, energy_within Up s.units)) in
+      let down = product_within 10000000 16000000 p.down (sum_by (energy_in Down) s.units) l.down (let few = h.few_units in omega (arith, energy_within Down s.units)) in
       omega (arith, ints, up, down)
 
   groups_account_size : nat_abs (groups_account p (zone_totals s)) ≤ 320000000000000
   groups_account_size =
       let few = h.few_groups in
-      difference_size p.imsp (summed (imbalance_in Surplus) s.groups) (summed (imbalance_in Shortage) s.groups) l.imsp
+      difference_size p.imsp (sum_by (imbalance_in Surplus) s.groups) (sum_by (imbalance_in Shortage) s.groups) l.imsp
       (omega (arith, imbalance_within Surplus s.groups)) (omega (arith, imbalance_within Shortage s.groups))
 
   units_length : length (units_text p s) ≤ 435
