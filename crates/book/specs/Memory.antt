@@ -2,9 +2,8 @@
 use Rattle.std.specs.Prelude.{ℕ, Bool, false, ◌&&◌, List, is_some, Some, None, Option, nat_le, nat_lt, slice_index_or, slice_set}
 use Rattle.std.specs.Option.{option_map}
 use Rattle.std.specs.List.{list_all}
-use Rattle.measures.specs.Calendar.{decade_of}
+use Rattle.measures.specs.Calendar.{decade_of, decade_number}
 use Rattle.measures.specs.declared.calendar.Decade.{Decade}
-use Rattle.measures.specs.declared.calendar.Decade.TheVariants.{First, Second, Third}
 use Rattle.price_history.specs.Views.{View}
 use Rattle.register.specs.Rolls.{Roll}
 use Rattle.sheet.specs.Figures.{Figures}
@@ -57,11 +56,6 @@ is_short b n = nat_lt n (places_of b.days b.zones)
 
 abbrev pub in_book : Standing → StatedPlace → Bool
 in_book b p = is_place b.days b.zones p.zone p.day p.period
-
-abbrev pub decade_number : Decade → ℕ
-decade_number First = 1
-decade_number Second = 2
-decade_number Third = 3
 
 abbrev pub among_closed : ℕ → Option Decade → Bool
 among_closed closed None = false

@@ -2,7 +2,7 @@
 ghost use Rattle.std.specs.Prelude.{◌≡◌, ◌<◌, not, [], ◌∷◌, IfOk};
 ghost use Rattle.book.specs.Checks.{verdict};
 ghost use Rattle.book.specs.Found.{found_in, spot_checks};
-ghost use Rattle.book.specs.Memory.{standing, decade_number, is_closed, number_in};
+ghost use Rattle.book.specs.Memory.{standing, is_closed, number_in};
 
 use crate::book::Book;
 use crate::refusal::BookRefusal;
@@ -12,22 +12,12 @@ use measures::calendar::Decade;
 use sheet::place::Place;
 use shelf::places::{number_of, places_of};
 
-fn number_of_decade(decade: Decade) -> u16
-    ensures { result ≡ decade_number decade }
-{
-    match decade {
-        Decade::First => 1,
-        Decade::Second => 2,
-        Decade::Third => 3,
-    }
-}
-
 impl Book {
     // Whether the day is of a decade that is closed.
     pub(crate) fn is_closed(&self, day: u16) -> bool
         ensures { result ≡ is_closed (standing self.now) day }
     {
-        Decade::of_day(day).is_some_and(|decade| number_of_decade(decade) <= self.closed)
+        Decade::of_day(day).is_some_and(|decade| u16::from(decade) <= self.closed)
     }
 
     // The place on a shelf of so many places.

@@ -103,11 +103,14 @@ fn numbers_beyond_their_limits_are_written(rt: HostRuntime) -> Result<(), Fail> 
     };
     let mut sheet = report.sheet;
     assert!(rt;
-        sheet.units.push(UnitLine {
-            unit: 65_535,
-            direction: Direction::Down,
-            energy: Volume { kwh: 0 },
-        })
+        sheet
+            .units
+            .push(UnitLine {
+                unit: 65_535,
+                direction: Direction::Down,
+                energy: Volume { kwh: 0 },
+            })
+            .is_ok()
     );
     writes(&rt, report.place, &sheet, UNIT_BEYOND.as_bytes())
 }
