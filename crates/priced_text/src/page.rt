@@ -15,14 +15,6 @@ use pricing::prices::SettlementPrices;
 use sheet::report::Sheet;
 use text_buffer::buffer::NoRoom;
 
-fn put_prices(page: &mut Page, prices: SettlementPrices) -> Result<(), NoRoom>
-    ensures { IsPut (prices_text (settled_of prices)) page.old page.new result }
-{
-    put_price(page, b"IMSP ", prices.imsp)?;
-    put_price(page, b"UP ", prices.up)?;
-    put_price(page, b"DOWN ", prices.down)
-}
-
 // How many lines are charged, each charge, and the account that balances them.
 fn put_charged<L: Charged>(
     page: &mut Page,
@@ -39,45 +31,46 @@ fn put_charged<L: Charged>(
     put_money(page, account, sum)
 }
 
-fn put_units(page: &mut Page, prices: SettlementPrices, sheet: &Sheet) -> Result<(), NoRoom>
-    ensures { IsPut (units_text (settled_of prices) (figures_of sheet.now)) page.old page.new result }
-{
-    let sum = units_account(prices, zone_totals(sheet));
-    put_charged(
-        page,
-        b"UNITS ",
-        prices,
-        sheet.units.as_slice(),
-        b"A-A ",
-        sum,
-    )
+// A period with its state, the prices that it is settled at and its sheet.
+#[derive(Clone, Copy)]
+pub(crate) struct PricedPeriod<'a> {
+    pub(crate) state: State,
+    pub(crate) prices: SettlementPrices,
+    pub(crate) sheet: &'a Sheet,
 }
 
-fn put_groups(page: &mut Page, prices: SettlementPrices, sheet: &Sheet) -> Result<(), NoRoom>
-    ensures { IsPut (groups_text (settled_of prices) (figures_of sheet.now)) page.old page.new result }
-{
-    let sum = groups_account(prices, zone_totals(sheet));
-    put_charged(
-        page,
-        b"GROUPS ",
-        prices,
-        sheet.groups.as_slice(),
-        b"A-B ",
-        sum,
-    )
-}
+impl<'a> PricedPeriod<'a> {
+    fn put_prices(&self, page: &mut Page) -> Result<(), NoRoom>
+        ensures { IsPut (prices_text (settled_of self.now.prices)) page.old page.new result }
+    {
+        put_price(page, b"IMSP ", self.prices.imsp)?;
+        put_price(page, b"UP ", self.prices.up)?;
+        put_price(page, b"DOWN ", self.prices.down)
+    }
 
-pub(crate) fn put_page(
-    page: &mut Page,
-    state: State,
-    prices: SettlementPrices,
-    sheet: &Sheet,
-) -> Result<(), NoRoom>
-    ensures { IsPut (page_text state (settled_of prices) (figures_of sheet.now)) page.old page.new result }
-{
-    put_state(page, state)?;
-    put_prices(page, prices)?;
-    put_units(page, prices, sheet)?;
-    put_groups(page, prices, sheet)?;
-    page.put(b"END\n")
+    fn put_units(&self, page: &mut Page) -> Result<(), NoRoom>
+        ensures { IsPut (units_text (settled_of self.now.prices) (figures_of self.now.sheet.now)) page.old page.new result }
+    {
+        let lines = self.sheet.units.as_slice();
+        let sum = units_account(self.prices, zone_totals(self.sheet));
+        put_charged(page, b"UNITS ", self.prices, lines, b"A-A ", sum)
+    }
+
+    fn put_groups(&self, page: &mut Page) -> Result<(), NoRoom>
+        ensures { IsPut (groups_text (settled_of self.now.prices) (figures_of self.now.sheet.now)) page.old page.new result }
+    {
+        let lines = self.sheet.groups.as_slice();
+        let sum = groups_account(self.prices, zone_totals(self.sheet));
+        put_charged(page, b"GROUPS ", self.prices, lines, b"A-B ", sum)
+    }
+
+    pub(crate) fn put_on(&self, page: &mut Page) -> Result<(), NoRoom>
+        ensures { IsPut (page_text self.now.state (settled_of self.now.prices) (figures_of self.now.sheet.now)) page.old page.new result }
+    {
+        put_state(page, self.state)?;
+        self.put_prices(page)?;
+        self.put_units(page)?;
+        self.put_groups(page)?;
+        page.put(b"END\n")
+    }
 }

@@ -4,7 +4,7 @@ ghost use Rattle.sheet_text.specs.Reading.{reading};
 ghost use Rattle.priced_text.specs.Answers.{priced_answer, priced_output};
 
 use crate::lines::Page;
-use crate::page::put_page;
+use crate::page::PricedPeriod;
 use crate::refusal::PricingRefusal;
 use offers::span::Span;
 use offers::states::zone_state;
@@ -25,7 +25,12 @@ pub fn price_text<H: PriceHistory>(
     let report = read(text)?;
     let state = zone_state(&report.sheet, Span::Period);
     let prices = settlement_prices(history, report.place, &report.sheet);
+    let period = PricedPeriod {
+        state,
+        prices,
+        sheet: &report.sheet,
+    };
     let mut page = Page::new();
-    put_page(&mut page, state, prices, &report.sheet)?;
+    period.put_on(&mut page)?;
     Ok(page.copy_to(out)?)
 }

@@ -14,12 +14,12 @@ use Rattle.priced_text.proofs.AnyCase.{read_listed}
 use Rattle.text_buffer.proofs.Placing.{never_refused, ok_answer, short_answer, copied}
 use Rattle.priced_text.proofs.pricing_text.price_text.Goals as goal
 
-pub returns-in_err-put_page : goal.returns-in_err-put_page
-returns-in_err-put_page g c =
+pub returns-in_err-put_on : goal.returns-in_err-put_on
+returns-in_err-put_on g c =
     let p = c.settlement_prices-prices.result in
     let limited : Limited (settled_of p) = record { imsp = p.imsp.limited; up = p.up.limited; down = p.down.limited } in
     let listed = read_listed c.args.text.now _ (sym c.in_ok-report.ensures) in
-    absurd (never_refused 935 c.new-page.ensures (page_length (settled_of p) (figures_of c.in_ok-report.report.sheet) limited listed c.zone_state-state.result) refl c.in_err-put_page.ensures)
+    absurd (never_refused 935 c.new-page.ensures (page_length (settled_of p) (figures_of c.in_ok-report.report.sheet) limited listed c.zone_state-state.result) refl c.in_err-put_on.ensures)
 
 pub returns-in_err-copy_to : goal.returns-in_err-copy_to
 unfolding text_of_priced
@@ -30,8 +30,8 @@ returns-in_err-copy_to g c =
     let page = page_text c.zone_state-state.result (settled_of c.settlement_prices-prices.result) (figures_of report.sheet) in
     let text = text_of_priced (case view report.place report.sheet) in
     let priced : page ≡ text = λ i. page_text (c.zone_state-state.ensures i) (c.settlement_prices-prices.ensures i) (figures_of report.sheet) in
-    let w = written c.put_page.new.page in
-    let is : w ≡ text = c.in_ok-put_page.ensures.after refl ∙ ap (λ (b : List ℕ). b ++ page) c.new-page.ensures ∙ priced in
+    let w = written c.put_on.new.page in
+    let is : w ≡ text = c.in_ok-put_on.ensures.after refl ∙ ap (λ (b : List ℕ). b ++ page) c.new-page.ensures ∙ priced in
     let read = c.in_ok-report.ensures in
     let told : c.from_residual-in_err-copy_to.result ≡ Err OutputShort = search rules in
     record {
@@ -51,8 +51,8 @@ returns g c =
     let page = page_text c.zone_state-state.result (settled_of c.settlement_prices-prices.result) (figures_of report.sheet) in
     let text = text_of_priced (case view report.place report.sheet) in
     let priced : page ≡ text = λ i. page_text (c.zone_state-state.ensures i) (c.settlement_prices-prices.ensures i) (figures_of report.sheet) in
-    let w = written c.put_page.new.page in
-    let is : w ≡ text = c.in_ok-put_page.ensures.after refl ∙ ap (λ (b : List ℕ). b ++ page) c.new-page.ensures ∙ priced in
+    let w = written c.put_on.new.page in
+    let is : w ≡ text = c.in_ok-put_on.ensures.after refl ∙ ap (λ (b : List ℕ). b ++ page) c.new-page.ensures ∙ priced in
     let read = c.in_ok-report.ensures in
     record {
       answer =

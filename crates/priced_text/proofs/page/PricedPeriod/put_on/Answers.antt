@@ -1,7 +1,7 @@
 -- The parts of a page are put one behind the other.
 use Rattle.std.proofs.Common.{refl}
 use Rattle.text_buffer.proofs.Joining.{both_put, put_whole}
-use Rattle.priced_text.proofs.page.put_page.Goals as goal
+use Rattle.priced_text.proofs.page.PricedPeriod.put_on.Goals as goal
 
 pub returns : goal.returns
 returns c =
