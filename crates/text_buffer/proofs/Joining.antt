@@ -1,5 +1,6 @@
 -- A text put in two parts is put as a whole.
-use Rattle.std.proofs.Common.{◌≡◌, ℕ, ◌+◌, Bool, true, cond, leb, List, ◌++◌, length, is_ok, Result, ap, ◌∙◌, append_assoc, arith, length-append}
+use Rattle.std.proofs.Common.{◌≡◌, ℕ, ◌+◌, Bool, true, false, cond, leb, List, ◌++◌, length, is_ok, Result, sym, ap, ◌∙◌, append_assoc, arith, length-append}
+use Rattle.std.proofs.lemmas.Bool.{false≢true, leb-false, lt-leb}
 use Rattle.text_buffer.specs.Texts.{Puts}
 
 module _ {X Y E F : Type 0} (N : ℕ) (x y : List ℕ) {a b c : List ℕ} {r : Result X E} {s : Result Y F} where
@@ -10,6 +11,14 @@ module _ {X Y E F : Type 0} (N : ℕ) (x y : List ℕ) {a b c : List ℕ} {r : R
       record {
         fits = q.fits ∙ ap (λ n. leb n N) long;
         after = λ done. q.after done ∙ ap (λ t. t ++ y) here ∙ append_assoc a x y;
+      }
+
+  pub first_refused : is_ok r ≡ false → is_ok s ≡ false → Puts N x a b r → Puts N (x ++ y) a c s
+  first_refused no_room refused p =
+      let past = leb-false (length a + length x) N (sym p.fits ∙ no_room) in
+      record {
+        fits = refused ∙ sym (lt-leb _ _ (omega (arith, past, length-append x y)));
+        after = λ done. absurd (false≢true (sym refused ∙ done));
       }
 
 -- what `put` ensures, in the form of a text of many parts
