@@ -34,7 +34,8 @@ fn on_day(key: PriceKey, day: u16) -> PriceKey
     }
 }
 
-// Goes back from the day before the key's until enough prices are found.
+// Goes back from the day before the key's until enough prices are found. It is a loop because both the
+// sum and the number of prices are wanted, which a chain of iterators would say no plainer.
 fn gather_before<H: PriceHistory>(history: &H, key: PriceKey) -> Gathered
     ensures total { result.total ≡ sum (latest_before (H.PriceHistory.view history.now) key.series key.zone key.day key.slot) }
     ensures count { result.count ≡ length (latest_before (H.PriceHistory.view history.now) key.series key.zone key.day key.slot) }

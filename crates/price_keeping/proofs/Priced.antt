@@ -1,5 +1,5 @@
 -- Prices of equal kopecks are equal: the limit of a price has one proof.
-use Rattle.std.proofs.Common.{◌≡◌, ◌≤◌, ℤ, nat_abs, is_some, Some, None, Option, refl, ap}
+use Rattle.std.proofs.Common.{◌≡◌, ◌≤◌, nat_abs, is_some, Some, None, Option, refl, ap}
 use mathlib.Core.HLevel.{is_prop→PathP}
 use native.Mathlib.Bridge.{le_prop}
 use Rattle.std.specs.Option.{option_map}

@@ -8,8 +8,7 @@ use measures::price::Price;
 use price_history::key::PriceKey;
 use price_history::mean::mean_before;
 
-// The mean of a history for reading, of one that is kept: it is here to show that what is kept can be
-// read, and carries that promise.
+// The same mean, of a history that is kept: it stands here to show that what is kept can be read.
 pub fn kept_mean<K: PriceKeeping>(history: &K, key: PriceKey) -> Option<Price>
     ensures { option_map (λ price. price.kop) result ≡ mean_before (K.PriceHistory.view history.now) key.series key.zone key.day key.slot }
 {

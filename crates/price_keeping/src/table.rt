@@ -7,6 +7,7 @@ ghost use Rattle.price_keeping.specs.Places.{places_over, kept_in};
 use measures::price::Price;
 
 // The price of a key stands at its rank. Memory with fewer places than there are keys is not used.
+// The memory is lent, and kept whole: what lies beyond the places is said to stay as it was.
 #[derive(Drop)]
 pub struct PriceTable<'a> {
     pub(crate) memory: &'a mut [Option<Price>],

@@ -1,5 +1,5 @@
 -- Going back day by day gathers the latest prices, and their sum fits.
-use Rattle.std.proofs.Common.{◌≤◌, ap, ◌∙◌, arith}
+use Rattle.std.proofs.Common.{ap, ◌∙◌, arith}
 use borrow.Author.Differences.{ints}
 use Rattle.price_history.proofs.Gathering.{gather_start, gather_some, gather_none, gathered_full, gathered_back}
 use Rattle.price_history.proofs.mean.gather_before.Goals as goal
