@@ -16,6 +16,6 @@ pub record Case : Type 0 where
 abbrev pub case : View → Place → Sheet → Case
 case view place sheet = record { view = view; zone = place.zone; day = place.day; period = place.period; sheet = figures_of sheet }
 
--- the case as it is lent, where a history shows its view
+-- the case of a sheet, its place and a history, where view tells what a history shows
 abbrev pub case_of : {H : Type 0} → (H → View) → Lent H → Case
 case_of view c = case (view c.history.now) c.place c.sheet.now

@@ -1,5 +1,5 @@
 -- Where the prices of a period stand in a history.
-use Rattle.std.specs.Prelude.{ℕ, ◌+◌, ◌-◌, ◌*◌}
+use Rattle.std.specs.Prelude.{ℕ, ◌+◌, ◌-◌, ◌*◌, ◌≤◌}
 use Rattle.price_history.specs.declared.series.Series.{Series}
 use Rattle.price_history.specs.declared.series.Series.TheVariants.{MarginalUp, MarginalDown, LimitUp, LimitDown}
 use Rattle.sheet.specs.declared.lines.Direction.{Direction}
@@ -21,3 +21,8 @@ slot_of Period t = t
 -- the history goes back ninety days before the month
 abbrev pub history_day : ℕ → ℕ
 history_day m = 90 + m
+
+-- a quarter that there is
+abbrev pub Within : Span → Type 0
+Within (Quarter q) = (1 ≤ q) × (q ≤ 4)
+Within Period = Unit {0}

@@ -41,11 +41,11 @@ impl<'a, H: PriceHistory> Case<'a, H> {
         self.marginal_price(quarter, direction).cost(volume)
     }
 
-    // Not by `sum`: no bound on signed numbers passes through a chain.
     fn sum_of_worths(&self, direction: Direction) -> i64
         ensures value { result ≡ up_to 4 (worth direction (case_of H.PriceHistory.view self.now)) }
         ensures bound { unsigned_abs result ≤ 10000000 * offered Period direction (listed self.now.sheet.now.offers) }
     {
+        // not a chain: that its signed `sum` fits stays open
         let mut sum = 0;
         for number in 1..=4 {
             sum += self.worth(Quarter { number }, direction).mkop;

@@ -14,9 +14,6 @@ stored bits s r e h k = omega (arith, ints)
 size : (s r x : ℤ) (m n v : ℕ) → x ≡ s +ℤ r → nat_abs s ≤ 10000000 * m → nat_abs r ≤ 10000000 * n → v ≡ m + n → nat_abs x ≤ 10000000 * v
 size s r x m n v e h k f = omega (arith, ints)
 
-pub overflow_add-sum : goal.overflow_add-sum
-overflow_add-sum g c = let b = c.worth-sum.ensures.small in let s = c.loop-number.invariant.2 in omega (arith, ints)
-
 pub loop-number-preserved : goal.loop-number-preserved
 loop-number-preserved g c =
     let q = c.loop-number.number in
