@@ -30,8 +30,7 @@ fn formed_at(place: Place, sheet: &Sheet, kind: PriceKind) -> FormedPrice
 pub fn formed_prices_of(place: Place, sheet: &Sheet) -> [FormedPrice; 10]
     ensures { map ranked result ≡ formed_prices place.zone place.day place.period (figures_of sheet.now) }
 {
-    let [u1, u2, u3, u4, d1, d2, d3, d4, up, down] = KINDS.map(|kind| formed_at(
-        place, sheet, kind,
-    ));
+    let by_key = KINDS.map(|kind| formed_at(place, sheet, kind));
+    let [u1, u2, u3, u4, d1, d2, d3, d4, up, down] = by_key;
     [u1, d1, u2, d2, u3, d3, u4, d4, up, down]
 }
