@@ -1,14 +1,10 @@
 -- A line with another number of fields than any line of a sheet counts as one with none.
-use Rattle.std.proofs.Common.{◌≡◌, ℕ, ◌<◌, List, [], length, refl, arith, rules}
-use Rattle.std.proofs.lemmas.Bool.Decides.{nat_tests}
+use Rattle.std.proofs.Common.{◌≡◌, ℕ, List, refl, rules}
 use Rattle.sheet_text.specs.Reading.{Reported}
 use Rattle.sheet_text.specs.Steps.{step}
 use Rattle.sheet_text.specs.declared.draft.Stage.{Stage}
 use Rattle.sheet_text.specs.declared.draft.Stage.TheVariants.{Period, DayAhead, Forced, Offers, Units, Groups, End, Done}
 use Rattle.sheet_text.specs.Listing.{usual}
-
-pub unusual : (ws : List (List ℕ)) → 8 < length ws → usual ws ≡ []
-unusual ws more = grind (arith, nat_tests)
 
 -- what the awaited line does is said by its fields
 pub step_counts : (stage : Stage) (r : Reported) (l : ℕ) (ws : List (List ℕ)) → step stage r l (usual ws) ≡ step stage r l ws

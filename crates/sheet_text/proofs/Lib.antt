@@ -1,3 +1,4 @@
 pub mod Counted
 pub mod Entering
+pub mod Parting
 pub mod Passing

@@ -4,6 +4,7 @@ pub mod Lines
 pub mod Reading
 pub mod Reported
 pub mod Listing
+pub mod Parting
 pub mod Standing
 pub mod Steps
 pub mod Onward

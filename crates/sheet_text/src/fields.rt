@@ -2,8 +2,7 @@
 ghost use Rattle.std.specs.Prelude.{◌≡◌};
 ghost use Rattle.text.specs.Cuts.{parts};
 ghost use Rattle.sheet_text.specs.Listing.{listing, usual};
-
-use text::cutting::cut_at;
+ghost use Rattle.sheet_text.specs.Parting.{ArePartsOf};
 
 // The fields by their number, where a line of a sheet can have so many.
 #[derive(Clone, Copy)]
@@ -16,33 +15,33 @@ pub(crate) enum Fields<'a> {
     Other,
 }
 
-// One space parts two fields.
+// The first nine parts of a line; no line of a sheet has so many. One space parts two fields.
+fn first_parts(line: &[u8]) -> [Option<&[u8]>; 9]
+    ensures { ArePartsOf (parts 32 line.now) result }
+{
+    let mut parts = line.split(|byte| *byte == b' ');
+    std::array::from_fn(|_| parts.next())
+}
+
 pub(crate) fn fields_of(line: &[u8]) -> Fields<'_>
     ensures { listing result ≡ usual (parts 32 line.now) }
 {
-    let Some((a, rest)) = cut_at(line, b' ') else {
-        return Fields::One(line);
-    };
-    let Some((b, rest)) = cut_at(rest, b' ') else {
-        return Fields::Two(a, rest);
-    };
-    let Some((c, rest)) = cut_at(rest, b' ') else {
-        return Fields::Three(a, b, rest);
-    };
-    let Some((d, rest)) = cut_at(rest, b' ') else {
-        return Fields::Four(a, b, c, rest);
-    };
-    let Some((e, rest)) = cut_at(rest, b' ') else {
-        return Fields::Other;
-    };
-    let Some((f, rest)) = cut_at(rest, b' ') else {
-        return Fields::Other;
-    };
-    let Some((g, h)) = cut_at(rest, b' ') else {
-        return Fields::Other;
-    };
-    match cut_at(h, b' ') {
-        None => Fields::Eight(a, b, c, d, e, f, g, h),
-        Some(_) => Fields::Other,
+    match first_parts(line) {
+        [Some(a), None, ..] => Fields::One(a),
+        [Some(a), Some(b), None, ..] => Fields::Two(a, b),
+        [Some(a), Some(b), Some(c), None, ..] => Fields::Three(a, b, c),
+        [Some(a), Some(b), Some(c), Some(d), None, ..] => Fields::Four(a, b, c, d),
+        [
+            Some(a),
+            Some(b),
+            Some(c),
+            Some(d),
+            Some(e),
+            Some(f),
+            Some(g),
+            Some(h),
+            None,
+        ] => Fields::Eight(a, b, c, d, e, f, g, h),
+        _ => Fields::Other,
     }
 }
