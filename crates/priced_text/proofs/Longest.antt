@@ -1,22 +1,14 @@
 -- How long the text of a priced period can be.
-use Rattle.std.proofs.Common.{ℕ, ◌+◌, ◌*◌, ◌^◌, ◌<◌, ◌≤◌, List, [], ◌∷◌, ◌++◌, length, ℤ, pos, negsuc, nat_abs, codes, decimal, le_refl, mul-le-mul, mul-suc, arith, length-append}
-use lib.Signed.{mag}
+use Rattle.std.proofs.Common.{ℕ, ◌+◌, ◌*◌, ◌^◌, ◌<◌, ◌≤◌, List, [], ◌∷◌, ◌++◌, length, ℤ, nat_abs, codes, decimal, le_refl, mul-le-mul, arith, length-append}
 use Rattle.std.specs.List.{flat_map, AllByRecursion}
 use Rattle.std.specs.Fmt.{signed_decimal}
-use Rattle.std.proofs.lemmas.Fmt.{length-decimal-le, length_signed_le}
+use Rattle.std.proofs.lemmas.Fmt.{length-decimal-le}
+use Rattle.text_buffer.proofs.Longest.{joined_length, signed_length}
 use Rattle.offers.specs.declared.span.State.{State}
 use Rattle.offers.specs.declared.span.State.TheVariants.{Deficit, Surplus, Balanced}
 use Rattle.priced_text.specs.Lines.{state_line, price_line, money_line, count_line, charge_line}
 use Rattle.pricing.specs.Prices.{Settled}
 use Rattle.priced_text.specs.Priced.{prices_text, charges_text}
-
-mag_size : (z : ℤ) → mag z ≤ nat_abs z
-mag_size (pos n) = omega arith
-mag_size (negsuc n) = omega arith
-
--- a number of at most k digits has at most one byte more with its sign
-signed_length : (k most : ℕ) (z : ℤ) → nat_abs z ≤ most → most + 1 < 10 ^ k → most < 2 ^ 63 → length (signed_decimal z) ≤ k + 1
-signed_length k most z small digits fits = length_signed_le k z (omega (arith, mag_size z)) (omega (arith, mag_size z))
 
 pub state_length : (st : State) → length (state_line st) ≤ 9
 state_length Deficit = omega arith
@@ -44,13 +36,6 @@ charge_length k n z some digits fits small =
       length-decimal-le k n some digits fits,
       signed_length 14 10000000000000 z small (omega arith) (omega arith),
     )
-
-joined_length : {X : Type 0} (f : X → List ℕ) (most : ℕ) (xs : List X) → AllByRecursion (λ x. length (f x) ≤ most) xs → length (flat_map f xs) ≤ most * length xs
-joined_length f most [] h = omega arith
-joined_length f most (x ∷ xs) h =
-    let rest = joined_length f most xs h.1 in
-    let first = h.0 in
-    omega (arith, length-append (f x) (flat_map f xs), mul-suc most (length xs))
 
 -- what is charged of each line is within these
 abbrev pub ChargesWithin : {L : Type 0} → ℕ → (L → ℕ) → (L → ℤ) → List L → Type 0

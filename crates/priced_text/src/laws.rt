@@ -7,12 +7,14 @@ pub const LONGEST: usize = 935;
 // The length of the longest line of a refusal.
 pub const LONGEST_REFUSAL: usize = 39;
 
+#[tactic(auto, using(crate::proofs::AnyCase::longest_priced))]
 pub fn longest_priced_text() -> usize
     ensures { LongestPriced result }
 {
     LONGEST
 }
 
+#[tactic(auto, using(crate::proofs::Refused::longest_refusal))]
 pub fn longest_refusal_line() -> usize
     ensures { LongestRefusal result }
 {

@@ -1,7 +1,7 @@
 // The lines of a priced period.
 ghost use Rattle.std.specs.Prelude.{◌≡◌};
 ghost use Rattle.std.specs.List.{flat_map};
-ghost use Rattle.text_buffer.specs.Texts.{written, Puts};
+ghost use Rattle.text_buffer.specs.Texts.{IsPut};
 ghost use Rattle.pricing.specs.Figures.{settled_of};
 ghost use Rattle.priced_text.specs.Lines.{state_line, price_line, money_line, count_line, charge_line};
 
@@ -16,7 +16,7 @@ use text_buffer::buffer::{NoRoom, TextBuffer};
 pub type Page = TextBuffer<935>;
 
 pub(crate) fn put_state(page: &mut Page, state: State) -> Result<(), NoRoom>
-    ensures { Puts 935 (state_line state) (written page.old) (written page.new) result }
+    ensures { IsPut (state_line state) page.old page.new result }
 {
     match state {
         State::Deficit => page.put(b"DEFICIT\n"),
@@ -26,36 +26,28 @@ pub(crate) fn put_state(page: &mut Page, state: State) -> Result<(), NoRoom>
 }
 
 pub(crate) fn put_price(page: &mut Page, name: &[u8], price: Price) -> Result<(), NoRoom>
-    ensures { Puts 935 (price_line name.now price.kop) (written page.old) (written page.new) result }
+    ensures { IsPut (price_line name.now price.kop) page.old page.new result }
 {
-    page.put(name)?;
-    page.put_signed(price.kop as i64)?;
-    page.put(b" kop/MWh\n")
+    page.put_figure(name, price.kop, b" kop/MWh\n")
 }
 
 pub(crate) fn put_money(page: &mut Page, name: &[u8], money: Money) -> Result<(), NoRoom>
-    ensures { Puts 935 (money_line name.now money.mkop) (written page.old) (written page.new) result }
+    ensures { IsPut (money_line name.now money.mkop) page.old page.new result }
 {
-    page.put(name)?;
-    page.put_signed(money.mkop)?;
-    page.put(b" mkop\n")
+    page.put_figure(name, money.mkop, b" mkop\n")
 }
 
 pub(crate) fn put_count(page: &mut Page, name: &[u8], count: usize) -> Result<(), NoRoom>
-    ensures { Puts 935 (count_line name.now count) (written page.old) (written page.new) result }
+    ensures { IsPut (count_line name.now count) page.old page.new result }
 {
-    page.put(name)?;
-    page.put_number(count as u64)?;
-    page.put(b"\n")
+    page.put_figure(name, count, b"\n")
 }
 
 fn put_charge(page: &mut Page, number: u16, charge: Money) -> Result<(), NoRoom>
-    ensures { Puts 935 (charge_line number charge.mkop) (written page.old) (written page.new) result }
+    ensures { IsPut (charge_line number charge.mkop) page.old page.new result }
 {
-    page.put_number(number as u64)?;
-    page.put(b" ")?;
-    page.put_signed(charge.mkop)?;
-    page.put(b" mkop\n")
+    page.put_number(number)?;
+    page.put_figure(b" ", charge.mkop, b" mkop\n")
 }
 
 pub(crate) fn put_charges<L: Charged>(
@@ -63,7 +55,7 @@ pub(crate) fn put_charges<L: Charged>(
     prices: SettlementPrices,
     lines: &[L],
 ) -> Result<(), NoRoom>
-    ensures { Puts 935 (flat_map (λ l. charge_line (L.Charged.number l) (L.Charged.charge (settled_of prices) l)) lines.now) (written page.old) (written page.new) result }
+    ensures { IsPut (flat_map (λ l. charge_line (L.Charged.number l) (L.Charged.charge (settled_of prices) l)) lines.now) page.old page.new result }
 {
     for line in lines {
         put_charge(page, line.number_of(), line.charge_at(prices))?;

@@ -2,7 +2,7 @@
 ghost use Rattle.std.specs.Prelude.{◌≡◌};
 ghost use Rattle.sheet.specs.Figures.{figures_of};
 ghost use Rattle.pricing.specs.Figures.{settled_of};
-ghost use Rattle.text_buffer.specs.Texts.{written, Puts};
+ghost use Rattle.text_buffer.specs.Texts.{IsPut};
 ghost use Rattle.priced_text.specs.Priced.{prices_text, charges_text, units_text, groups_text, page_text};
 
 use crate::lines::{Page, put_charges, put_count, put_money, put_price, put_state};
@@ -16,7 +16,7 @@ use sheet::report::Sheet;
 use text_buffer::buffer::NoRoom;
 
 fn put_prices(page: &mut Page, prices: SettlementPrices) -> Result<(), NoRoom>
-    ensures { Puts 935 (prices_text (settled_of prices)) (written page.old) (written page.new) result }
+    ensures { IsPut (prices_text (settled_of prices)) page.old page.new result }
 {
     put_price(page, b"IMSP ", prices.imsp)?;
     put_price(page, b"UP ", prices.up)?;
@@ -32,7 +32,7 @@ fn put_charged<L: Charged>(
     account: &[u8],
     sum: Money,
 ) -> Result<(), NoRoom>
-    ensures { Puts 935 (charges_text name.now L.Charged.number (L.Charged.charge (settled_of prices)) lines.now account.now sum.mkop) (written page.old) (written page.new) result }
+    ensures { IsPut (charges_text name.now L.Charged.number (L.Charged.charge (settled_of prices)) lines.now account.now sum.mkop) page.old page.new result }
 {
     put_count(page, name, lines.len())?;
     put_charges(page, prices, lines)?;
@@ -40,7 +40,7 @@ fn put_charged<L: Charged>(
 }
 
 fn put_units(page: &mut Page, prices: SettlementPrices, sheet: &Sheet) -> Result<(), NoRoom>
-    ensures { Puts 935 (units_text (settled_of prices) (figures_of sheet.now)) (written page.old) (written page.new) result }
+    ensures { IsPut (units_text (settled_of prices) (figures_of sheet.now)) page.old page.new result }
 {
     let sum = units_account(prices, zone_totals(sheet));
     put_charged(
@@ -54,7 +54,7 @@ fn put_units(page: &mut Page, prices: SettlementPrices, sheet: &Sheet) -> Result
 }
 
 fn put_groups(page: &mut Page, prices: SettlementPrices, sheet: &Sheet) -> Result<(), NoRoom>
-    ensures { Puts 935 (groups_text (settled_of prices) (figures_of sheet.now)) (written page.old) (written page.new) result }
+    ensures { IsPut (groups_text (settled_of prices) (figures_of sheet.now)) page.old page.new result }
 {
     let sum = groups_account(prices, zone_totals(sheet));
     put_charged(
@@ -73,7 +73,7 @@ pub(crate) fn put_page(
     prices: SettlementPrices,
     sheet: &Sheet,
 ) -> Result<(), NoRoom>
-    ensures { Puts 935 (page_text state (settled_of prices) (figures_of sheet.now)) (written page.old) (written page.new) result }
+    ensures { IsPut (page_text state (settled_of prices) (figures_of sheet.now)) page.old page.new result }
 {
     put_state(page, state)?;
     put_prices(page, prices)?;

@@ -1,8 +1,8 @@
 // The line that is printed of a text that is no sheet.
 ghost use Rattle.std.specs.Prelude.{◌≡◌, length, if◌then◌else◌, Some, None, nat_le};
 ghost use Rattle.std.specs.Result.{result_ok};
-ghost use Rattle.text_buffer.specs.Texts.{written, Puts, placed};
-ghost use Rattle.priced_text.specs.Refusals.{line_of_refusal, number_part, place_part};
+ghost use Rattle.text_buffer.specs.Texts.{IsPut, placed};
+ghost use Rattle.priced_text.specs.Refusals.{line_of_refusal};
 
 use sheet_text::faults::SheetFault;
 use text_buffer::buffer::{NoRoom, TextBuffer};
@@ -10,34 +10,19 @@ use text_buffer::buffer::{NoRoom, TextBuffer};
 // Memory for the line.
 type Line = TextBuffer<64>;
 
-fn put_number(line: &mut Line, fault: SheetFault) -> Result<(), NoRoom>
-    ensures { Puts 64 (number_part fault) (written line.old) (written line.new) result }
+fn put_refusal(line: &mut Line, fault: SheetFault) -> Result<(), NoRoom>
+    ensures { IsPut (line_of_refusal fault) line.old line.new result }
 {
-    line.put(b"REFUSED ")?;
-    line.put_number(fault.fault.kind.number() as u64)?;
-    line.put(b" ")?;
-    line.put_number(fault.fault.line as u64)?;
-    line.put(b" ")
-}
-
-fn put_place(line: &mut Line, fault: SheetFault) -> Result<(), NoRoom>
-    ensures { Puts 64 (place_part fault) (written line.old) (written line.new) result }
-{
-    line.put_number(fault.fault.field as u64)?;
-    line.put(b" ")?;
+    line.put_figure(b"REFUSED ", fault.fault.kind.number(), b" ")?;
+    line.put_number(fault.fault.line)?;
+    line.put_figure(b" ", fault.fault.field, b" ")?;
     line.put(fault.section.word().as_bytes())?;
     line.put(b"\n")
 }
 
-fn put_refusal(line: &mut Line, fault: SheetFault) -> Result<(), NoRoom>
-    ensures { Puts 64 (line_of_refusal fault) (written line.old) (written line.new) result }
-{
-    put_number(line, fault)?;
-    put_place(line, fault)
-}
-
 // Writes the line of a fault to the front of `out`. Answers how long it is. Where it does not fit,
 // `out` stays as it was.
+#[tactic(auto, using(crate::proofs::Refused::refusal_length))]
 pub fn write_refusal(fault: SheetFault, out: &mut [u8]) -> Result<usize, NoRoom>
     ensures answer { result_ok result ≡ (if nat_le (length (line_of_refusal fault)) (length out.old) then Some (length (line_of_refusal fault)) else None) }
     ensures output { out.new ≡ placed (line_of_refusal fault) out.old }

@@ -23,14 +23,14 @@ use Rattle.sheet_text.proofs.Entering.{beside}
 use Rattle.sheet_laws.proofs.LineFacts.{Says, PlaceWithin, period_fact, day_ahead_fact, forced_fact, count_fact, offer_fact, unit_fact, group_fact}
 
 -- where something is read, it is P
-abbrev Gives : {A E : Type 0} → (A → Type 0) → Result A E → Type 0
+abbrev pub Gives : {A E : Type 0} → (A → Type 0) → Result A E → Type 0
 Gives P r = IfOk r P
 
-gives_then : {A B E : Type 0} (P : A → Type 0) (Q : B → Type 0) (r : Result A E) (k : A → Result B E) → Gives P r → ((x : A) → P x → Gives Q (k x)) → Gives Q (then r k)
+pub gives_then : {A B E : Type 0} (P : A → Type 0) (Q : B → Type 0) (r : Result A E) (k : A → Result B E) → Gives P r → ((x : A) → P x → Gives Q (k x)) → Gives Q (then r k)
 gives_then P Q (Ok x) k h g = g x h
 gives_then P Q (Err e) k h g = tt
 
-gives_weaker : {A E : Type 0} (P Q : A → Type 0) (r : Result A E) → Gives P r → ((x : A) → P x → Q x) → Gives Q r
+pub gives_weaker : {A E : Type 0} (P Q : A → Type 0) (r : Result A E) → Gives P r → ((x : A) → P x → Q x) → Gives Q r
 gives_weaker P Q (Ok x) h g = g x h
 gives_weaker P Q (Err e) h g = tt
 

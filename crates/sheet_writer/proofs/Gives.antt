@@ -1,26 +1,16 @@
 -- What holds of what is read, where something is read.
-use Rattle.std.proofs.Common.{◌≡◌, ℕ, Bool, true, false, cond, List, IfOk, Some, None, Ok, Err, Option, Result, refl, subst}
+use Rattle.std.proofs.Common.{◌≡◌, ℕ, Bool, true, false, cond, List, Some, None, Ok, Err, Option, Result, refl, subst}
 use Rattle.std.specs.Str.{bytes_eq}
 use Rattle.std.proofs.lemmas.Slice.Eq.{bytes_eq-Decides}
+use Rattle.sheet_laws.proofs.Limited.{Gives}
 use Rattle.sheet_text.specs.Lines.{need, fixed}
-use Rattle.sheet_text.specs.Reading.{Left, then, inside}
+use Rattle.sheet_text.specs.Reading.{Left, inside}
 use Rattle.sheet_text.specs.declared.faults.LineFault.{LineFault}
 use Rattle.sheet_text.specs.declared.faults.Section.{Section}
 use Rattle.sheet_text.specs.declared.faults.SheetFault.{SheetFault}
 
-abbrev pub Gives : {A E : Type 0} → (A → Type 0) → Result A E → Type 0
-Gives P r = IfOk r P
-
 pub given : {A E : Type 0} (P : A → Type 0) (r : Result A E) (x : A) → Gives P r → r ≡ Ok x → P x
 given P r x h e = subst (Gives P) e h
-
-pub gives_then : {A B E : Type 0} (P : A → Type 0) (Q : B → Type 0) (r : Result A E) (follows : A → Result B E) → Gives P r → ((x : A) → P x → Gives Q (follows x)) → Gives Q (then r follows)
-gives_then P Q (Ok x) follows h g = g x h
-gives_then P Q (Err e) follows h g = tt
-
-pub gives_weaker : {A E : Type 0} (P Q : A → Type 0) (r : Result A E) → Gives P r → ((x : A) → P x → Q x) → Gives Q r
-gives_weaker P Q (Ok x) h g = g x h
-gives_weaker P Q (Err e) h g = tt
 
 pub gives_inside : {A B : Type 0} (P : A → Left → Type 0) (Q : B → Type 0) (sec : Section) (r : Result (A × Left) LineFault) (follows : A → Left → Result B SheetFault)
     → Gives (λ x. P x.0 x.1) r → ((x : A) (s : Left) → P x s → Gives Q (follows x s)) → Gives Q (inside sec r follows)

@@ -6,7 +6,8 @@ use Rattle.sheet_text.specs.Lines.{counted, one, two, three, four, eight, period
 use Rattle.sheet_text.specs.Values.{direction_field, position_field, constraint_field, volume_field, period_volume_field, price_field, imbalance_field}
 use Rattle.sheet_text.specs.declared.faults.LineFault.{LineFault}
 use Rattle.sheet_writer.specs.Rendered.{period_fields, day_ahead_fields, forced_fields, offer_fields, unit_fields, group_fields, count_fields, end_fields}
-use Rattle.sheet_writer.proofs.Gives.{Gives, gives_need, gives_cond, gives_fixed}
+use Rattle.sheet_laws.proofs.Limited.{Gives}
+use Rattle.sheet_writer.proofs.Gives.{gives_need, gives_cond, gives_fixed}
 use Rattle.sheet_writer.proofs.Numbered.{within_back}
 use Rattle.sheet_writer.proofs.Values.{direction_back, position_back, constraint_back, volume_back, period_volume_back, price_back, imbalance_back}
 

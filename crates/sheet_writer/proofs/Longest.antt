@@ -1,11 +1,11 @@
 -- How long the text of a sheet can be.
-use Rattle.std.proofs.Common.{◌≡◌, ℕ, zero, suc, ◌+◌, ◌*◌, ◌/◌, ◌%◌, ◌<◌, ◌≤◌, Bool, true, false, eqb, List, [], ◌∷◌, ◌++◌, length, ℤ, pos, negsuc, nat_abs, codes, decimal, refl, le_refl, mul-le-mul, mul-suc, arith, length-append}
-use lib.Signed.{mag}
+use Rattle.std.proofs.Common.{◌≡◌, ℕ, zero, suc, ◌+◌, ◌*◌, ◌/◌, ◌%◌, ◌<◌, ◌≤◌, Bool, true, false, eqb, List, [], ◌∷◌, ◌++◌, length, codes, decimal, refl, le_refl, mul-le-mul, arith, length-append}
 use Rattle.std.specs.List.{flat_map, AllByRecursion}
 use Rattle.std.specs.Fmt.{digits, digit_glyph, signed_decimal, digits_onto}
-use Rattle.std.proofs.lemmas.Fmt.{length-decimal-le, length_signed_le}
+use Rattle.std.proofs.lemmas.Fmt.{length-decimal-le}
 use Rattle.std.proofs.ByRecursion.{All-weaker}
 use Rattle.std.proofs.lemmas.Bool.{cond_both}
+use Rattle.text_buffer.proofs.Longest.{joined_length, signed_length}
 use Rattle.measures.specs.declared.price.Price.{Price}
 use Rattle.measures.specs.declared.volume.PeriodVolume.{PeriodVolume}
 use Rattle.measures.specs.declared.volume.Volume.{Volume}
@@ -31,12 +31,8 @@ pub any_number : (n : ℕ) → length (decimal n) ≤ 64
 unfolding digits
 any_number n = spelled_length 64 n []
 
-mag_size : (z : ℤ) → mag z ≤ nat_abs z
-mag_size (pos n) = omega arith
-mag_size (negsuc n) = omega arith
-
 price_length : (p : Price) → length (signed_decimal p.kop) ≤ 9
-price_length p = let small = p.limited in length_signed_le 8 p.kop (omega (arith, mag_size p.kop)) (omega (arith, mag_size p.kop))
+price_length p = let small = p.limited in signed_length 8 10000000 p.kop (omega arith) (omega arith) (omega arith)
 
 direction_length : (d : Direction) → length (direction_letter d) ≡ 1
 direction_length Up = refl
@@ -121,13 +117,6 @@ group_length k g h =
       position_length g.position,
       volume_length g.imbalance,
     )
-
-joined_length : {X : Type 0} (f : X → List ℕ) (most : ℕ) (xs : List X) → AllByRecursion (λ x. length (f x) ≤ most) xs → length (flat_map f xs) ≤ most * length xs
-joined_length f most [] h = omega arith
-joined_length f most (x ∷ xs) h =
-    let rest = joined_length f most xs h.1 in
-    let first = h.0 in
-    omega (arith, length-append (f x) (flat_map f xs), mul-suc most (length xs))
 
 -- a list of at most so many entries
 list_length : {A : Type 0} (keyword : List ℕ) (fields : A → List (List ℕ)) (each many : ℕ) (xs : List A) → AllByRecursion (λ x. length (line (fields x)) ≤ each) xs → length xs ≤ many → many < 100 →

@@ -12,7 +12,8 @@ use Rattle.sheet_text.specs.declared.faults.LineFault.{LineFault}
 use Rattle.sheet_text.specs.declared.faults.Section.TheVariants as section
 use Rattle.sheet_writer.specs.Laws.{text_of, ReadIsWrittenBack}
 use Rattle.sheet_writer.specs.Rendered.{spaced, line, day_ahead_fields, forced_fields, offer_fields, unit_fields, group_fields, count_fields, end_fields, list_text, rendered}
-use Rattle.sheet_writer.proofs.Gives.{Gives, given, gives_then, gives_weaker, gives_cond, gives_inside}
+use Rattle.sheet_laws.proofs.Limited.{Gives, gives_then, gives_weaker}
+use Rattle.sheet_writer.proofs.Gives.{given, gives_cond, gives_inside}
 use Rattle.sheet_writer.proofs.LinesBack.{WrittenBack, place_fields, only_end, period_back, day_ahead_back, forced_back, count_back, offer_back, unit_back, group_back, end_back}
 use Rattle.sheet_writer.proofs.Spacing.{parts_join}
 

@@ -1,7 +1,7 @@
 // The entries of a sheet's lists.
 ghost use Rattle.std.specs.Prelude.{◌≡◌, ℕ, List, [], ◌∷◌, codes};
 ghost use Rattle.std.specs.Fmt.{signed_decimal};
-ghost use Rattle.text_buffer.specs.Texts.{written, Puts};
+ghost use Rattle.text_buffer.specs.Texts.{IsPut};
 ghost use Rattle.sheet_writer.specs.Rendered.{line, offer_fields, unit_fields, group_fields};
 ghost use Rattle.sheet_writer.specs.Letters.{direction_letter, position_letter, constraint_letter};
 
@@ -36,7 +36,7 @@ fn constraint_letter(constrained: bool) -> &'static [u8]
 
 // `price kop/MWh letter`
 fn put_terms(page: &mut Page, price: Price, letter: &[u8]) -> Result<(), NoRoom>
-    ensures { Puts 6556 (line (signed_decimal price.kop ∷ codes "kop/MWh" ∷ letter.now ∷ [])) (written page.old) (written page.new) result }
+    ensures { IsPut (line (signed_decimal price.kop ∷ codes "kop/MWh" ∷ letter.now ∷ [])) page.old page.new result }
 {
     put_price(page, price)?;
     page.put(b" ")?;
@@ -49,7 +49,7 @@ pub(crate) trait EntryText {
     ghost fields: { Self → List (List ℕ) };
 
     fn put_on(&self, page: &mut Page) -> Result<(), NoRoom>
-        ensures { Puts 6556 (line (fields self.now)) (written page.old) (written page.new) result };
+        ensures { IsPut (line (fields self.now)) page.old page.new result };
 }
 
 // `quarter U|D unit volume kWh price kop/MWh C|-`
@@ -58,10 +58,8 @@ impl EntryText for Offer {
 
     fn put_on(&self, page: &mut Page) -> Result<(), NoRoom> {
         put_start(page, self.quarter, direction_letter(self.direction))?;
-        page.put_number(self.unit as u64)?;
-        page.put(b" ")?;
-        page.put_number(self.volume.kwh as u64)?;
-        page.put(b" kWh ")?;
+        page.put_number(self.unit)?;
+        page.put_figure(b" ", self.volume.kwh, b" kWh ")?;
         put_terms(page, self.price, constraint_letter(self.constrained))
     }
 }

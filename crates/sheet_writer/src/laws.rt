@@ -4,32 +4,28 @@ ghost use Rattle.sheet_writer.specs.Laws.{Longest, ReadIsWrittenBack, WrittenIsR
 // The length of the longest text of a sheet within its limits.
 pub const LONGEST: usize = 1612;
 
+#[tactic(auto, using(crate::proofs::FullSheet::longest))]
 pub fn longest_text() -> usize
     ensures { Longest result }
 {
     LONGEST
 }
 
-pub fn read_is_written_back() -> u8
+#[tactic(auto, using(crate::proofs::TextBack::read_is_written_back))]
+pub fn read_is_written_back()
     ensures { ReadIsWrittenBack }
-{
-    0
-}
+{}
 
-pub fn written_is_read_back() -> u8
+#[tactic(auto, using(crate::proofs::TextRead::written_is_read_back))]
+pub fn written_is_read_back()
     ensures { WrittenIsReadBack }
-{
-    0
-}
+{}
 
-pub fn no_two_texts_have_one_sheet() -> u8
+pub fn no_two_texts_have_one_sheet()
     ensures { NoTwoTextsHaveOneSheet }
-{
-    0
-}
+{}
 
-pub fn no_two_sheets_have_one_text() -> u8
+#[tactic(auto, using(crate::proofs::RoundTrip::no_two_sheets))]
+pub fn no_two_sheets_have_one_text()
     ensures { NoTwoSheetsHaveOneText }
-{
-    0
-}
+{}

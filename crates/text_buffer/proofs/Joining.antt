@@ -1,5 +1,5 @@
 -- A text put in two parts is put as a whole.
-use Rattle.std.proofs.Common.{◌≡◌, ℕ, ◌+◌, Bool, true, false, cond, leb, List, ◌++◌, length, is_ok, Result, sym, ap, ◌∙◌, subst, append_assoc, arith, length-append}
+use Rattle.std.proofs.Common.{◌≡◌, ℕ, ◌+◌, Bool, true, false, cond, leb, List, ◌++◌, length, is_ok, Result, sym, ap, ◌∙◌, append_assoc, arith, length-append}
 use Rattle.std.proofs.lemmas.Bool.{false≢true, leb-false, lt-leb}
 use Rattle.text_buffer.specs.Texts.{Puts}
 
@@ -20,9 +20,6 @@ module _ {X Y E F : Type 0} (N : ℕ) (x y : List ℕ) {a b c : List ℕ} {r : R
         fits = refused ∙ sym (lt-leb _ _ (omega (arith, past, length-append x y)));
         after = λ done. absurd (false≢true (sym refused ∙ done));
       }
-
-pub put_as : {X E : Type 0} (N : ℕ) {x y a b : List ℕ} {r : Result X E} → x ≡ y → Puts N x a b r → Puts N y a b r
-put_as N {x} {y} {a} {b} {r} e p = subst (λ (t : List ℕ). Puts N t a b r) e p
 
 -- what `put` ensures, in the form of a text of many parts
 pub put_whole : {X E : Type 0} (N : ℕ) {x a b : List ℕ} {r : Result X E} → is_ok r ≡ leb (length a + length x) N → b ≡ cond (is_ok r) (a ++ x) a → Puts N x a b r

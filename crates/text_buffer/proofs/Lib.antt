@@ -1,4 +1,4 @@
-pub mod Lengths
+pub mod Longest
 pub mod Chained
 pub mod Joining
 pub mod Placing

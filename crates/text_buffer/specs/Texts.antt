@@ -12,6 +12,10 @@ pub record Puts {X E : Type 0} (N : ℕ) (text before later : List ℕ) (r : Res
   pub fits : is_ok r ≡ nat_le (length before + length text) N
   pub after : is_ok r ≡ true → later ≡ before ++ text
 
+-- the same of a buffer
+abbrev pub IsPut : {N : ℕ} {X E : Type 0} → List ℕ → TextBuffer N → TextBuffer N → Result X E → Type 0
+IsPut {N} text before later r = Puts N text (written before) (written later) r
+
 -- a text at the front of an output, and what was there behind it; all as it was where the text does not fit
 abbrev pub placed : List ℕ → List ℕ → List ℕ
 placed text out = cond (nat_lt (length out) (length text)) out (text ++ drop (length text) out)

@@ -1,7 +1,7 @@
 // Writing text, and handing it over.
 ghost use Rattle.std.specs.Prelude.{◌≡◌, ◌+◌, [], ◌++◌, length, drop, is_ok, if◌then◌else◌, Some, None, nat_le};
 ghost use Rattle.std.specs.Result.{result_ok};
-ghost use Rattle.text_buffer.specs.Texts.{written};
+ghost use Rattle.text_buffer.specs.Texts.{written, IsPut};
 
 use crate::buffer::{NoRoom, TextBuffer};
 use arrayvec::ArrayVec;
@@ -37,6 +37,16 @@ impl<const N: usize> TextBuffer<N> {
     {
         let mut digits = Buffer::new();
         self.put(digits.format(n).as_bytes())
+    }
+
+    // Puts a label, a number in decimal and its unit. Where they do not fit, some of them may have been put.
+    // Not by `write!`, since what it promises does not say when a text does not fit.
+    pub fn put_figure<I: Integer>(&mut self, label: &[u8], n: I, unit: &[u8]) -> Result<(), NoRoom>
+        ensures { IsPut (label.now ++ (I.text n ++ unit.now)) self.old self.new result }
+    {
+        self.put(label)?;
+        self.put_number(n)?;
+        self.put(unit)
     }
 
     // Copies the text to the front of `out`, and says how long it is. Where it does not fit, `out`

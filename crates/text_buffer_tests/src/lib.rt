@@ -17,13 +17,8 @@ mod tests {
     #[test]
     fn the_least_number_is_written(rt: HostRuntime) {
         let mut out = [b'.'; 30];
-        let mut length = 0;
-        if let Ok(text) = least() {
-            if let Ok(count) = text.copy_to(&mut out[..]) {
-                length = count;
-            }
-        }
-        assert_eq!(rt; length, 24);
+        let length = least().and_then(|text| text.copy_to(&mut out[..]));
+        assert!(rt; length == Ok(24));
         assert!(rt; &out[..] == &b"x=-922337203685477580800......"[..]);
     }
 

@@ -1,9 +1,0 @@
-use Rattle.std.proofs.Common.{rules}
-use Rattle.text_buffer.proofs.Chained.{chained}
-use Rattle.sheet_writer.proofs.lines.put_price.Goals as goal
-
-pub returns-in_err-put_signed : goal.returns-in_err-put_signed
-returns-in_err-put_signed c = search (rules, chained)
-
-pub returns : goal.returns
-returns c = search (rules, chained)
