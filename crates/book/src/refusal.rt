@@ -39,6 +39,7 @@ pub enum BookRefusal {
 }
 
 impl BookRefusal {
+    // The number that it is told by; `u8::from` would not say which number.
     pub fn number(self) -> u8
         ensures { result ≡ (told self).number }
     {

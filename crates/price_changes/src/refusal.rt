@@ -9,6 +9,7 @@ pub enum ChangeRefusal {
 }
 
 impl ChangeRefusal {
+    // The number that it is told by; `u8::from` would not say which number.
     pub fn number(self) -> u8
         ensures { result ≡ change_number self }
     {

@@ -20,6 +20,7 @@ pub enum MemoryRefusal {
 }
 
 impl KeepRefusal {
+    // The number that it is told by; `u8::from` would not say which number.
     pub fn number(self) -> u8
         ensures { result ≡ keep_number self }
     {
@@ -32,6 +33,7 @@ impl KeepRefusal {
 }
 
 impl MemoryRefusal {
+    // The number that it is told by; `u8::from` would not say which number.
     pub fn number(self) -> u8
         ensures { result ≡ memory_number self }
     {

@@ -13,6 +13,7 @@ pub enum RegisterRefusal {
 }
 
 impl RegisterRefusal {
+    // The number that it is told by; `u8::from` would not say which number.
     pub fn number(self) -> u8
         ensures { result ≡ refusal_number self }
     {

@@ -39,6 +39,7 @@ pub struct SheetFault {
 }
 
 impl FaultKind {
+    // The number that it is told by; `u8::from` would not say which number.
     pub fn number(self) -> u8
         ensures { result ≡ number_of self }
     {
@@ -63,6 +64,7 @@ impl FaultKind {
 }
 
 impl Section {
+    // Its word to be put among other bytes, which a `Display` would not give.
     pub fn word(self) -> &'static str
         ensures { result.now ≡ word_of self }
     {

@@ -53,7 +53,8 @@ pub(crate) fn constraint_of(field: &[u8]) -> Option<bool>
     }
 }
 
-// The volume of a quarter or of a line.
+// The volume of a quarter or of a line. Each measure is read by a function of its own, which joins its
+// type with its limit.
 pub(crate) fn volume_of(field: &[u8], least: u32) -> Option<Volume>
     ensures { result ≡ volume_field least field.now }
 {

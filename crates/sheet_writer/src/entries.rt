@@ -10,6 +10,7 @@ use measures::price::Price;
 use sheet::lines::{Direction, GroupLine, Offer, Position, UnitLine};
 use text_buffer::buffer::NoRoom;
 
+// Letters are put among other bytes, which a `Display` would not give.
 fn direction_letter(direction: Direction) -> &'static [u8]
     ensures { result.now ≡ direction_letter direction }
 {
