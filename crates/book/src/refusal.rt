@@ -4,7 +4,7 @@ ghost use Rattle.book.specs.Refusals.{told};
 
 use sheet_text::faults::SheetFault;
 
-#[derive(Clone, Copy)]
+#[derive(Clone, Copy, Debug, PartialEq, Eq)]
 pub enum BookRefusal {
     // the text is no sheet
     Text(SheetFault),

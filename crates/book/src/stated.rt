@@ -26,7 +26,7 @@ impl From<Place> for StatedPlace {
 }
 
 // Where a price belongs in a history.
-#[derive(Clone, Copy, PartialEq)]
+#[derive(Clone, Copy, Debug, PartialEq, Eq)]
 pub struct StatedKey {
     pub series: Series,
     pub zone: u16,

@@ -6,7 +6,7 @@ use crate::series::Series;
 
 // Days 1 to 90 are those before the month, and 90 + m is day m of the month. The slot is the settlement
 // period t, and for marginal prices 4(t - 1) + q in quarter q of it.
-#[derive(Clone, Copy, PartialEq, Eq, PartialOrd, Ord)]
+#[derive(Clone, Copy, Debug, PartialEq, Eq, PartialOrd, Ord)]
 pub struct PriceKey {
     pub series: Series,
     pub zone: u16,

@@ -4,7 +4,7 @@ ghost use Rattle.price_history.specs.Slots.{slots_of, first_of};
 
 // Marginal prices are formed for each quarter of an hour, limit prices for each settlement period:
 // the highest of its offers up, the lowest of its offers down.
-#[derive(Clone, Copy, PartialEq, Eq, PartialOrd, Ord)]
+#[derive(Clone, Copy, Debug, PartialEq, Eq, PartialOrd, Ord)]
 pub enum Series {
     MarginalUp,
     MarginalDown,

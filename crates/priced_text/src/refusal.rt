@@ -6,7 +6,7 @@ ghost use Rattle.priced_text.specs.declared.refusal.PricingRefusal.TheVariants.{
 use sheet_text::faults::SheetFault;
 use text_buffer::buffer::NoRoom;
 
-#[derive(Clone, Copy)]
+#[derive(Clone, Copy, Debug, PartialEq, Eq)]
 pub enum PricingRefusal {
     // the text is no sheet
     Text(SheetFault),

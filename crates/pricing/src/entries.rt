@@ -11,7 +11,7 @@ use sheet::place::Place;
 use sheet::report::Sheet;
 
 // A key, and the price that forms there or none.
-#[derive(Clone, Copy)]
+#[derive(Clone, Copy, Debug, PartialEq, Eq)]
 pub struct FormedPrice {
     pub key: PriceKey,
     pub price: Option<Price>,

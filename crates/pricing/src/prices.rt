@@ -3,7 +3,7 @@ use measures::price::Price;
 use offers::span::State;
 
 // The prices that a period is settled at.
-#[derive(Clone, Copy)]
+#[derive(Clone, Copy, Debug, PartialEq, Eq)]
 pub struct SettlementPrices {
     // for imbalances
     pub imsp: Price,
@@ -14,7 +14,7 @@ pub struct SettlementPrices {
 }
 
 // The state of a quarter and its marginal prices.
-#[derive(Clone, Copy)]
+#[derive(Clone, Copy, Debug, PartialEq, Eq)]
 pub struct QuarterPrices {
     pub state: State,
     pub up: Price,
@@ -22,7 +22,7 @@ pub struct QuarterPrices {
 }
 
 // Every price of a period.
-#[derive(Clone, Copy)]
+#[derive(Clone, Copy, Debug, PartialEq, Eq)]
 pub struct PeriodPrices {
     pub state: State,
     pub quarters: [QuarterPrices; 4],

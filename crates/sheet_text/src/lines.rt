@@ -8,6 +8,7 @@ use measures::price::Price;
 use measures::volume::PeriodVolume;
 use sheet::place::Place;
 use text::numbers::number_within;
+use text::words::is_word;
 
 const ZONES: u16 = 2;
 
@@ -18,7 +19,11 @@ const PERIODS: u16 = 24;
 pub(crate) fn need_word(field: &[u8], word: &[u8], fault: LineFault) -> Result<(), LineFault>
     ensures { result ≡ fixed field.now word.now fault (Ok tt) }
 {
-    if field == word { Ok(()) } else { Err(fault) }
+    if is_word(field, word) {
+        Ok(())
+    } else {
+        Err(fault)
+    }
 }
 
 // `PERIOD zone day period`
