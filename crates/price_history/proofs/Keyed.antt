@@ -1,9 +1,7 @@
--- Each key is the key of its parts, and has the parts that it was made of.
-use Rattle.std.proofs.Common.{◌≡◌, ℕ, ◌≤◌, is_some, Some, None, Option, sym, refl, ap, ◌∙◌}
+-- Each key is the key of its parts, and parts beyond the limits are those of no key.
+use Rattle.std.proofs.Common.{◌≡◌, ℕ, ◌≤◌, Some, None, Option, sym, refl, ap, ◌∙◌}
 use native.Mathlib.Bridge.{le_prop}
 use native.Mathlib.Decide.{dec_le}
-use Rattle.std.proofs.lemmas.Bool.{true≢false}
-use Rattle.std.proofs.lemmas.Option.{same_Some}
 use Rattle.price_history.specs.declared.key.PriceKey.{PriceKey}
 use Rattle.price_history.specs.declared.series.Series.{Series}
 use Rattle.price_history.specs.Slots.{slots_of}
@@ -18,16 +16,6 @@ module _ {A : Type 0} (a b n : ℕ) (make : a ≤ n → n ≤ b → Option A) wh
 
   within : (from : a ≤ n) (to : n ≤ b) → make from to ≡ between a b n make
   within from to = sym (decided (dec_le a n) (dec_le n b) from to)
-
-  -- what was made was made of a number within the limits
-  decided_to : {R : Type 0} (x : A) (d : Dec (a ≤ n)) (e : Dec (n ≤ b)) → Some x ≡ where_both d e make → ((from : a ≤ n) (to : n ≤ b) → Some x ≡ make from to → R) → R
-  decided_to x (yes p) (yes q) is then = then p q is
-  decided_to x (yes p) (no q) is then = absurd (true≢false (ap is_some is))
-  decided_to x (no p) (yes q) is then = absurd (true≢false (ap is_some is))
-  decided_to x (no p) (no q) is then = absurd (true≢false (ap is_some is))
-
-  made : {R : Type 0} (x : A) → Some x ≡ between a b n make → ((from : a ≤ n) (to : n ≤ b) → Some x ≡ make from to → R) → R
-  made x is then = decided_to x (dec_le a n) (dec_le n b) is then
 
   -- nothing is made of a number beyond the limits
   decided_none : (d : Dec (a ≤ n)) (e : Dec (n ≤ b)) → ((from : a ≤ n) (to : n ≤ b) → None ≡ make from to) → None ≡ where_both d e make
@@ -51,11 +39,3 @@ key_is k =
     within 1 (slots_of k.series) k.slot _ k.slot_from k.slot_to
     ∙ within 1 121 k.day _ k.day_from k.day_to
     ∙ within 1 2 k.zone _ k.zone_from k.zone_to
-
-pub key_parts : (k : PriceKey) (series : Series) (zone day slot : ℕ) → Some k ≡ key_of series zone day slot → (k.series ≡ series) × (k.zone ≡ zone) × (k.day ≡ day) × (k.slot ≡ slot)
-key_parts k series zone day slot is =
-    made 1 2 zone _ k is (λ zone_from zone_to in-zone.
-    made 1 121 day _ k in-zone (λ day_from day_to in-day.
-    made 1 (slots_of series) slot _ k in-day (λ slot_from slot_to here.
-    let same = same_Some k _ here in
-    (ap (λ x. x.series) same, ap (λ x. x.zone) same, ap (λ x. x.day) same, ap (λ x. x.slot) same))))

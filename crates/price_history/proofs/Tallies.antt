@@ -1,5 +1,5 @@
 -- How the number of prices shown changes with what is shown.
-use Rattle.std.proofs.Common.{◌≡◌, ℕ, zero, suc, ◌+◌, ◌<◌, ◌≤◌, cond, eqb, is_some, Some, None, Option, sym, refl, ap, ◌∙◌, ⊎_elim, add-one, arith}
+use Rattle.std.proofs.Common.{◌≡◌, ℕ, zero, suc, ◌+◌, ◌<◌, ◌≤◌, cond, eqb, is_some, Some, None, Option, sym, refl, ap, ◌∙◌, ⊎_elim, arith}
 use Rattle.std.specs.Map.{update}
 use Rattle.std.proofs.lemmas.Map.{update_here, update_apart}
 use Rattle.std.proofs.lemmas.Bool.{cases_eq}
@@ -12,10 +12,6 @@ module _ {V : Type 0} where
   pub one_le : (o : Option V) → one o ≤ 1
   one_le (Some x) = omega arith
   one_le None = omega arith
-
-  pub tallied_more : (f : ℕ → Option V) (n : ℕ) → tallied f (n + 1) ≡ tallied f n + one (f n)
-  unfolding tallied
-  tallied_more f n = ap (tallied f) (add-one n)
 
   pub tallied_same : (f g : ℕ → Option V) (n : ℕ) → ((q : ℕ) → q < n → f q ≡ g q) → tallied f n ≡ tallied g n
   unfolding tallied
@@ -44,16 +40,4 @@ module _ {V : Type 0} where
       let here : one (update eqb f k w n) ≡ one (f n) = ap one (update_apart f k w n (λ e. ne (sym e))) in
       let rest = tallied_update f k w n (omega arith) in
       omega (arith, here, rest))
-      (cases_eq k n)
-
-  -- a rank that shows nothing leaves room
-  pub tallied_room : (f : ℕ → Option V) (k n : ℕ) → k < n → f k ≡ None → tallied f n < n
-  unfolding tallied
-  tallied_room f k zero lt e = absurd (omega arith)
-  tallied_room f k (suc n) lt e =
-      ⊎_elim
-      (λ same.
-      let none : one (f n) ≡ 0 = ap (λ z. one (f z)) (sym same) ∙ ap one e in
-      omega (arith, none, tallied_le f n))
-      (λ ne. let below : k < n = omega arith in omega (arith, one_le (f n), tallied_room f k n below e))
       (cases_eq k n)

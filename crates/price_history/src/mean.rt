@@ -34,8 +34,8 @@ fn on_day(key: PriceKey, day: u16) -> PriceKey
     }
 }
 
-// Goes back from the day before the key's until enough prices are found. It is a loop because both the
-// sum and the number of prices are wanted, which a chain of iterators would say no plainer.
+// Goes back from the day before the key's until enough prices are found. It is a loop over days: the
+// check makes no statement yet of a loop over a chain whose closure reads any history.
 fn gather_before<H: PriceHistory>(history: &H, key: PriceKey) -> Gathered
     ensures total { result.total ≡ sum (latest_before (H.PriceHistory.view history.now) key.series key.zone key.day key.slot) }
     ensures count { result.count ≡ length (latest_before (H.PriceHistory.view history.now) key.series key.zone key.day key.slot) }

@@ -11,20 +11,13 @@ use Rattle.ordered_list.proofs.Told.{told, told_ok}
 use Rattle.register.specs.declared.refusal.RegisterRefusal.TheVariants.{Limits, Full}
 use Rattle.register.specs.Limits.{is_unit, is_party}
 use Rattle.register.specs.Refusals.{entry_told}
-use Rattle.register.specs.Rolls.{Party, Roll, roll_of, empty_roll, entry_to, register_answer, registered}
+use Rattle.register.specs.Rolls.{Party, Roll, roll_of, entry_to, register_answer, registered}
 
 abbrev number : Option Party → Option ℕ
 number o = option_map (λ p. p.number) o
 
 roll_path : (r s : Roll) → ((unit : ℕ) → r.party unit ≡ s.party unit) → r.count ≡ s.count → r.places ≡ s.places → r ≡ s
 roll_path r s party count places = λ i. record { party = fun_ext party i; count = count i; places = places i }
-
-cond_none : (b : Bool) → ◌≡◌ {A = Option ℕ} (cond b None None) None
-cond_none true = refl
-cond_none false = refl
-
-pub roll_empty : (places : ℕ) → roll_of (list.empty_listing places) ≡ empty_roll places
-roll_empty places = roll_path (roll_of (list.empty_listing places)) (empty_roll places) (λ unit. cond_none (is_unit unit)) refl refl
 
 -- a number that was taken is within its limits
 pub taken : (limits : Bool) (m n : ℕ) → Some m ≡ cond limits (Some n) None → (limits ≡ true) × (m ≡ n)

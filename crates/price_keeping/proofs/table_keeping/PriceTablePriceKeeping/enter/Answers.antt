@@ -1,7 +1,7 @@
 -- A table that is not full has a free place for a key without a price.
 use Rattle.std.proofs.Common.{◌≡◌, Some, None, sym, refl, ap, ◌∙◌, arith}
 use Rattle.price_history.proofs.Tallies.{one, tallied_le}
-use Rattle.price_keeping.specs.Changes.{entry_answer, entered}
+use Rattle.price_keeping.specs.Changes.{entered}
 use Rattle.price_history.specs.Keys.{span}
 use Rattle.price_keeping.specs.Tables.{table_view}
 use Rattle.price_keeping.proofs.Cells.{Written, roomy, written, none_from}
@@ -29,14 +29,13 @@ invariant_of-self c =
     let none : one ((table_view c.args.self.now).shown c.rank-rank.result) ≡ 0 = ap one (absent then) in
     record { placed = (write then).placed; counted = omega (arith, none, (write then).counts) }
 
-pub returns : goal.returns
-returns c =
-    let then = (goal.at.returns c).After-rank-rank in
+pub returns-clause-after : goal.returns-clause-after
+returns-clause-after c =
+    let then = (goal.at.returns-clause-after c).After-rank-rank in
     let view = table_view c.args.self.now in
     let rank = c.rank-rank.result in
     let granted = entry_granted view rank (absent then) (λ e. c.if-self.false (c.args.self.now.counted ∙ e)) in
-    record {
-      answer = granted ∙ ap (entry_answer view) c.rank-rank.ensures.value;
-      after = is_entered view rank _ c.args.price granted (write then).shows refl ∙ ap (λ r. entered view r c.args.price) c.rank-rank.ensures.value;
-      beyond = (write then).kept;
-    }
+    is_entered view rank _ c.args.price granted (write then).shows refl ∙ ap (λ r. entered view r c.args.price) c.rank-rank.ensures.value
+
+pub returns-clause-beyond : goal.returns-clause-beyond
+returns-clause-beyond c = (write (goal.at.returns-clause-beyond c).After-rank-rank).kept

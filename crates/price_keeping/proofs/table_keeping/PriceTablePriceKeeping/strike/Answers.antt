@@ -1,7 +1,7 @@
 -- A price that is shown stands in its place.
 use Rattle.std.proofs.Common.{◌≡◌, Some, None, sym, refl, ap, ◌∙◌, arith}
 use Rattle.price_history.proofs.Tallies.{one}
-use Rattle.price_keeping.specs.Changes.{strike_of, strike_answer, struck}
+use Rattle.price_keeping.specs.Changes.{strike_of, struck}
 use Rattle.price_keeping.specs.Tables.{table_view}
 use Rattle.price_keeping.proofs.Cells.{Written, kept_inside, written}
 use Rattle.price_keeping.proofs.Changing.{is_struck}
@@ -28,14 +28,9 @@ invariant_of-self c =
     let some : 1 ≡ one ((table_view c.args.self.now).shown c.rank-rank.result) = ap one (present then) in
     record { placed = (write then).placed; counted = omega (arith, some, (write then).counts) }
 
-pub returns : goal.returns
-returns c =
-    let then = (goal.at.returns c).After-rank-rank in
+pub returns-clause-after : goal.returns-clause-after
+returns-clause-after c =
+    let then = (goal.at.returns-clause-after c).After-rank-rank in
     let view = table_view c.args.self.now in
     let rank = c.rank-rank.result in
-    let granted = ap strike_of (present then) in
-    record {
-      answer = granted ∙ ap (strike_answer view) c.rank-rank.ensures.value;
-      after = is_struck view rank _ c.in_ok-price.price granted (write then).shows refl ∙ ap (struck view) c.rank-rank.ensures.value;
-      beyond = (write then).kept;
-    }
+    is_struck view rank _ c.in_ok-price.price (ap strike_of (present then)) (write then).shows refl ∙ ap (struck view) c.rank-rank.ensures.value
