@@ -36,7 +36,9 @@ impl OfUnit for UnitLine {
 fn all_registered<L: OfUnit>(register: &Register<'_>, lines: &[L]) -> bool
     ensures { result ≡ list_all (λ l. is_some ((roll register.now).party (L.OfUnit.unit l))) lines.now }
 {
-    lines.iter().all(|line| register.party_of(line.unit_number()).is_some())
+    lines
+        .iter()
+        .all(|line| register.party_of(line.unit_number()).is_some())
 }
 
 pub(crate) fn knows_units(register: &Register<'_>, sheet: &Sheet) -> bool
