@@ -49,6 +49,7 @@ fn put_sheet<K: PriceKeeping>(
     Ok(())
 }
 
+// History, register and shelf stay their owner's: each call takes those that it uses.
 impl Book {
     // The place of a report whose units are known and whose decade is open.
     fn place_for(

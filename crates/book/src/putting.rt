@@ -1,4 +1,5 @@
-// How a report is put into the book.
+// How a report is put into the book. The definitions tell the two ways apart, so that they are cases and
+// no closures.
 ghost use Rattle.std.specs.Prelude.{◌≡◌, [], ◌∷◌};
 ghost use Rattle.book.specs.Checks.{verdict};
 ghost use Rattle.book.specs.Filing.{force_check};

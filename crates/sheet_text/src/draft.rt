@@ -23,7 +23,8 @@ pub(crate) const MOST_UNITS: u32 = 16;
 
 pub(crate) const MOST_GROUPS: u32 = 16;
 
-// What the next line must be, or that none may follow.
+// What the next line must be, or that none may follow. It is a state, matched with the fields of a line,
+// and no table of steps: what may come follows from where the reader stands.
 #[derive(Clone, Copy)]
 pub(crate) enum Stage {
     Period,
