@@ -1,7 +1,7 @@
 // Sheets are filed, replaced and withdrawn.
 ghost use Rattle.std.specs.Prelude.{◌≡◌, ◌<◌, not, [], ◌∷◌, ◌++◌, length, is_ok, IfOk, if◌then◌else◌, slice_set};
 ghost use Rattle.std.specs.Option.{option_map};
-ghost use Rattle.sheet.specs.Figures.{figures_of};
+ghost use Rattle.sheet.specs.Figures.{figures_of, figures_lent};
 ghost use Rattle.sheet_text.specs.Reading.{reading};
 ghost use Rattle.sheet_text.specs.Reported.{plain};
 ghost use Rattle.register.specs.Rolls.{Roll, roll};
@@ -39,9 +39,9 @@ fn put_sheet<K: PriceKeeping>(
     new: Option<&Sheet>,
 ) -> Result<(), BookRefusal>
     requires { spot.number < length shelf.old }
-    ensures answer { result ≡ verdict ((overfull (changed_view (K.PriceHistory.view history.old) (changes_of shelf.old (found spot) (option_map (λ s. figures_of s.now) new.entry))), HistoryFull) ∷ []) (tt {0}) }
-    ensures history { K.PriceHistory.view history.new ≡ (if is_ok result then changed_view (K.PriceHistory.view history.old) (changes_of shelf.old (found spot) (option_map (λ s. figures_of s.now) new.entry)) else K.PriceHistory.view history.old) }
-    ensures rows { shelf.new ≡ (if is_ok result then slice_set shelf.old spot.number (option_map packed_sheet (option_map (λ s. figures_of s.now) new.entry)) else shelf.old) }
+    ensures answer { result ≡ verdict ((overfull (changed_view (K.PriceHistory.view history.old) (changes_of shelf.old (found spot) (figures_lent new.entry))), HistoryFull) ∷ []) (tt {0}) }
+    ensures history { K.PriceHistory.view history.new ≡ (if is_ok result then changed_view (K.PriceHistory.view history.old) (changes_of shelf.old (found spot) (figures_lent new.entry)) else K.PriceHistory.view history.old) }
+    ensures rows { shelf.new ≡ (if is_ok result then slice_set shelf.old spot.number (option_map packed_sheet (figures_lent new.entry)) else shelf.old) }
 {
     let changes = price_changes(spot.place, sheet_on(&shelf[spot.number]), new);
     change_prices(history, &changes)?;
@@ -49,7 +49,7 @@ fn put_sheet<K: PriceKeeping>(
     Ok(())
 }
 
-// History, register and shelf stay their owner's: each call takes those that it uses.
+// History, register and shelf are lent, so each call takes those that it uses.
 impl Book {
     // The place of a report whose units are known and whose decade is open.
     fn place_for(

@@ -1,5 +1,5 @@
-// How a report is put into the book. The definitions tell the two ways apart, so that they are cases and
-// no closures.
+// How a report is put into the book. The definitions tell the two ways apart, so they are cases, not
+// closures.
 ghost use Rattle.std.specs.Prelude.{◌≡◌, [], ◌∷◌};
 ghost use Rattle.book.specs.Checks.{verdict};
 ghost use Rattle.book.specs.Filing.{force_check};

@@ -5,6 +5,7 @@ use Rattle.sheet.specs.Figures.{Figures}
 use Rattle.sheet_laws.specs.Laws.{WithinLimits}
 use Rattle.sheet_laws.proofs.Limited.{within_limits}
 use Rattle.sheet_text.specs.Reading.{Reported}
+use Rattle.price_keeping.proofs.Cells.{none_from}
 use Rattle.pricing.specs.Changes.{formed_by}
 use Rattle.price_changes.specs.Changed.{touched}
 use Rattle.book.specs.Filing.{put_checks, put_verdict, put_report}
@@ -26,10 +27,6 @@ is_place r w = record {
   period_from = w.period.0;
   period_to = w.period.1;
 }
-
-pub none_from : {A : Type 0} (o : Option A) → is_some o ≡ false → o ≡ None
-none_from None e = refl
-none_from (Some x) e = absurd (false≢true (sym e))
 
 pub put_granted : (how : Putting) (m : Memory) (r : Reported) → put_verdict how m r ≡ Ok (tt {0}) → put_report how m r ≡ with_sheet m (place_of r) (Some r.figures)
 put_granted how m r ok = cond-true (is_ok (put_verdict how m r)) _ m (ap is_ok ok)

@@ -17,7 +17,7 @@ const RANKS: u32 = 58_080;
 // It has no divisor in common with the number of ranks.
 const STEP: u64 = 7_919;
 
-// The histories that are filled, as the arguments name them.
+// The histories that are filled: cases that the arguments name, which closures would say no plainer.
 #[derive(Clone, Copy)]
 enum Which {
     Table,

@@ -1,5 +1,5 @@
 -- Numbers that are measures where they are within the limits.
-use Rattle.std.specs.Prelude.{ℕ, ℤ, pos, Some, None, Option, unsigned_abs}
+use Rattle.std.specs.Prelude.{ℕ, ◌*◌, ◌≤◌, ℤ, pos, Some, None, Option, unsigned_abs}
 use Rattle.std.proofs.Common.{lit≤}
 use Rattle.std.proofs.Math.Decide.{dec_le}
 use Rattle.measures.specs.declared.volume.Volume.{Volume}
@@ -19,6 +19,10 @@ period_volume_of n = where_kept (dec_le n 10000000) (λ kept. record { kwh = n; 
 
 abbrev pub price_of : ℤ → Option Price
 price_of z = where_kept (dec_le (unsigned_abs z) 10000000) (λ kept. record { kop = z; limited = kept })
+
+-- no more in size than n kWh, or n prices, come to
+abbrev pub WithinPrices : ℤ → ℕ → Type 0
+WithinPrices z n = unsigned_abs z ≤ 10000000 * n
 
 abbrev pub no_volume : Volume
 no_volume = record { kwh = 0; limited = lit≤ tt }

@@ -23,6 +23,7 @@ impl Volume {
     }
 }
 
+// Beside a ghost field Default is not derived.
 impl Default for Volume {
     ghost is_default = { λ x. x ≡ no_volume };
 
@@ -43,6 +44,7 @@ impl PeriodVolume {
     }
 }
 
+// By hand, as for a volume.
 impl Default for PeriodVolume {
     ghost is_default = { λ x. x ≡ no_period_volume };
 
@@ -63,6 +65,7 @@ impl Price {
     }
 }
 
+// By hand, as for a volume.
 impl Default for Price {
     ghost is_default = { λ x. x ≡ zero_price };
 

@@ -57,9 +57,7 @@ impl<'a, V: Copy> OrderedList<'a, V> {
         ensures answer { result ≡ strike_answer (listing self.old) (K.Ranked.order key.now) }
         ensures after { listing self.new ≡ struck (listing self.old) (K.Ranked.order key.now) }
     {
-        let Ok(at) = self.find(key.rank()) else {
-            return Err(StrikeRefusal::Absent);
-        };
+        let at = self.find(key.rank()).map_err(|_| StrikeRefusal::Absent)?;
         Ok(self.remove(at))
     }
 }

@@ -1,6 +1,7 @@
 // The price that stands in for one that was not formed.
-ghost use Rattle.std.specs.Prelude.{◌≡◌, ◌*◌, ◌≤◌, length, unsigned_abs};
+ghost use Rattle.std.specs.Prelude.{◌≡◌, ◌≤◌, length};
 ghost use Rattle.std.specs.Option.{option_map};
+ghost use Rattle.measures.specs.Limits.{WithinPrices};
 ghost use Rattle.price_history.specs.Keys.{rank_of, rank_on};
 ghost use Rattle.price_history.specs.Means.{sum, latest_before, mean_before};
 
@@ -34,12 +35,12 @@ fn on_day(key: PriceKey, day: u16) -> PriceKey
     }
 }
 
-// Goes back from the day before the key's until enough prices are found. It is a loop over days: the
-// check makes no statement yet of a loop over a chain whose closure reads any history.
+// Goes back from the day before the key's until enough prices are found. Not a chain: what a closure
+// reads of any history stays open there.
 fn gather_before<H: PriceHistory>(history: &H, key: PriceKey) -> Gathered
     ensures total { result.total ≡ sum (latest_before (H.PriceHistory.view history.now) key.series key.zone key.day key.slot) }
     ensures count { result.count ≡ length (latest_before (H.PriceHistory.view history.now) key.series key.zone key.day key.slot) }
-    ensures limited { unsigned_abs result.total ≤ 10000000 * result.count }
+    ensures limited { WithinPrices result.total result.count }
 {
     let mut total: i64 = 0;
     let mut count: u64 = 0;

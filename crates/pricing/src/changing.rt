@@ -1,7 +1,6 @@
 // What changes in a history when the sheet of a period is changed.
 ghost use Rattle.std.specs.Prelude.{◌≡◌, map};
-ghost use Rattle.std.specs.Option.{option_map};
-ghost use Rattle.sheet.specs.Figures.{figures_of};
+ghost use Rattle.sheet.specs.Figures.{figures_lent};
 ghost use Rattle.pricing.specs.Kinds.{span_of, direction_of};
 ghost use Rattle.pricing.specs.Changes.{plain, change_at, changes_at};
 
@@ -12,7 +11,7 @@ use sheet::place::Place;
 use sheet::report::Sheet;
 
 fn change_at(place: Place, old: Option<&Sheet>, new: Option<&Sheet>, kind: PriceKind) -> PriceChange
-    ensures { plain result ≡ change_at place.zone place.day place.period (option_map (λ s. figures_of s.now) old.entry) (option_map (λ s. figures_of s.now) new.entry) (span_of kind) (direction_of kind) }
+    ensures { plain result ≡ change_at place.zone place.day place.period (figures_lent old.entry) (figures_lent new.entry) (span_of kind) (direction_of kind) }
 {
     PriceChange {
         key: kind.key(place),
@@ -24,7 +23,7 @@ fn change_at(place: Place, old: Option<&Sheet>, new: Option<&Sheet>, kind: Price
 // The prices that an older and a newer sheet form, of the four quarters and of the period, up and down.
 // A substitute is never among them.
 pub fn price_changes(place: Place, old: Option<&Sheet>, new: Option<&Sheet>) -> PriceChanges
-    ensures { map plain result.list ≡ changes_at place.zone place.day place.period (option_map (λ s. figures_of s.now) old.entry) (option_map (λ s. figures_of s.now) new.entry) }
+    ensures { map plain result.list ≡ changes_at place.zone place.day place.period (figures_lent old.entry) (figures_lent new.entry) }
 {
     PriceChanges {
         list: KINDS.map(|kind| change_at(place, old, new, kind)),

@@ -1,6 +1,7 @@
 // Marginal prices weighed by the volumes of the quarters.
-ghost use Rattle.std.specs.Prelude.{◌≡◌, ◌*◌, ◌≤◌, pos, unsigned_abs};
+ghost use Rattle.std.specs.Prelude.{◌≡◌, ◌≤◌, pos, unsigned_abs};
 ghost use Rattle.std.specs.Option.{option_map};
+ghost use Rattle.measures.specs.Limits.{WithinPrices};
 ghost use Rattle.measures.specs.Rounding.{quotient};
 ghost use Rattle.sheet.specs.Listed.{listed};
 ghost use Rattle.offers.specs.Volumes.{in_quarter, offered};
@@ -10,6 +11,7 @@ ghost use Rattle.pricing.specs.Prices.{worth, up_to, mean_price};
 
 use crate::case::Case;
 use crate::quarter::Quarter;
+use measures::amount::Amount;
 use measures::money::Money;
 use measures::price::Price;
 use measures::rounding::rounded_quotient;
@@ -21,7 +23,7 @@ use sheet::lines::Direction;
 
 // The size of a sum of worths, by the volume; none where there is no volume.
 fn mean_size(worth: i64, volume: VolumeSum) -> Option<Price>
-    requires { unsigned_abs worth ≤ 10000000 * volume.kwh }
+    requires { WithinPrices worth volume.kwh }
     ensures { option_map (λ price. price.kop) result ≡ quotient (pos (unsigned_abs worth)) volume.kwh }
 {
     Price::new(rounded_quotient(worth.abs(), volume.kwh as u64)?)
@@ -31,19 +33,19 @@ impl<'a, H: PriceHistory> Case<'a, H> {
     // What the offers of a quarter come to at its marginal price, which is not looked for without an offer.
     fn worth(&self, quarter: Quarter, direction: Direction) -> Money
         ensures value { result.mkop ≡ worth direction (case_of H.PriceHistory.view self.now) quarter.number }
-        ensures bound { unsigned_abs result.mkop ≤ 10000000 * in_quarter quarter.number direction (listed self.now.sheet.now.offers) }
+        ensures bound { WithinPrices result.mkop (in_quarter quarter.number direction (listed self.now.sheet.now.offers)) }
         ensures small { unsigned_abs result.mkop ≤ 960000000000000 }
     {
         let volume = offered_volume(self.sheet, Span::Quarter(quarter.number), direction);
         if volume.kwh == 0 {
-            return Money { mkop: 0 };
+            return Money::ZERO;
         }
         self.marginal_price(quarter, direction).cost(volume)
     }
 
     fn sum_of_worths(&self, direction: Direction) -> i64
         ensures value { result ≡ up_to 4 (worth direction (case_of H.PriceHistory.view self.now)) }
-        ensures bound { unsigned_abs result ≤ 10000000 * offered Period direction (listed self.now.sheet.now.offers) }
+        ensures bound { WithinPrices result (offered Period direction (listed self.now.sheet.now.offers)) }
     {
         // not a chain: that its signed `sum` fits stays open
         let mut sum = 0;

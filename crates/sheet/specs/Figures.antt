@@ -1,5 +1,7 @@
 -- The figures of a sheet, its entries as lists.
-use Rattle.std.specs.Prelude.{List}
+use denote.Ref.{Bor}
+use Rattle.std.specs.Prelude.{List, Option}
+use Rattle.std.specs.Option.{option_map}
 use Rattle.measures.specs.declared.price.Price.{Price}
 use Rattle.measures.specs.declared.volume.PeriodVolume.{PeriodVolume}
 use Rattle.sheet.specs.declared.lines.Offer.{Offer}
@@ -23,3 +25,7 @@ figures_of s = record {
   units = listed s.units;
   groups = listed s.groups;
 }
+
+-- those of a sheet that is lent, or none
+abbrev pub figures_lent : Option (Bor Sheet) → Option Figures
+figures_lent s = option_map (λ x. figures_of x.now) s

@@ -5,7 +5,7 @@ use std::alloc::AllocError;
 
 // The first `len` of `items`. The count is plain data: past the places it stands for all of them,
 // which an ArrayVec, whose count is within its places, could not say.
-// Proofs about any sheet read the number of places in `full`: a list in a definition has no length of its own.
+// `full` says how many places there are, since a definition sees the array as a list.
 #[derive(Copy)]
 pub struct Entries<T, const N: usize> {
     pub items: [T; N],

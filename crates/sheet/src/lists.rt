@@ -4,7 +4,7 @@ ghost use Rattle.sheet.specs.Listed.{listed};
 
 use crate::entries::Entries;
 
-// A list has no place left for an entry.
+// A list has no place left for an entry: one error, which has no cases.
 #[derive(Clone, Copy, Debug, PartialEq, Eq)]
 pub struct NoPlace;
 

@@ -1,8 +1,9 @@
 -- What a reader comes to from where it stands, for the contracts of its parts.
-use Rattle.std.specs.Prelude.{◌≡◌, ℕ, ◌+◌, ◌≤◌, List, [], Ok, Err, Result}
+use Rattle.std.specs.Prelude.{◌≡◌, ℕ, ◌+◌, ◌≤◌, List, [], Ok, Err, Result, MatchResult}
 use Rattle.sheet.specs.declared.lines.GroupLine.{GroupLine}
 use Rattle.sheet.specs.declared.lines.Offer.{Offer}
 use Rattle.sheet.specs.declared.lines.UnitLine.{UnitLine}
+use Rattle.sheet_text.specs.Faults.{fault_in}
 use Rattle.sheet_text.specs.Lines.{three, four, eight, period_line, day_ahead_line, forced_line, offer_line, unit_line, group_line}
 use Rattle.sheet_text.specs.Reading.{Left, Reported, then, a_line, entries, a_list, the_end, inside}
 use Rattle.sheet_text.specs.Reported.{plain}
@@ -11,8 +12,10 @@ use Rattle.sheet_text.specs.Steps.{step, next_stage, most_entries, with_place, w
 use Rattle.sheet_text.specs.declared.draft.Stage.{Stage}
 use Rattle.sheet_text.specs.declared.draft.Stage.TheVariants as stage
 use Rattle.sheet_text.specs.declared.faults.LineFault.{LineFault}
+use Rattle.sheet_text.specs.declared.faults.Section.{Section}
 use Rattle.sheet_text.specs.declared.faults.Section.TheVariants.{Head, Offers, Units, Groups, End}
 use Rattle.sheet_text.specs.declared.faults.SheetFault.{SheetFault}
+use Rattle.sheet_text.specs.declared.raised.FaultIn.{FaultIn}
 use Rattle.sheet_text.specs.declared.reader.Reader.{Reader}
 
 abbrev pub with_offers : Reported → List Offer → Reported
@@ -91,6 +94,10 @@ Refuses a e = a_line (step a.draft.stage (plain a.draft.report)) (left a.cursor)
 -- one reader comes to the same as the other, and has gone on
 abbrev pub Reaches : Reader → Reader → Stage → ℕ → Type 0
 Reaches a b s l = (outcome b ≡ outcome a) × (b.draft.stage ≡ s) × (b.cursor.line ≤ l)
+
+-- a part of a sheet is read on to a stage, or there is a fault in it
+abbrev pub ReadsOn : {P : Type 0} → Section → Reader → Reader → Stage → ℕ → Result (Unit {0}) (FaultIn P) → Type 0
+ReadsOn part a b s l r = MatchResult r (λ _. Reaches a b s l) (λ e. outcome a ≡ Err (fault_in part e.fault))
 
 module _ {A : Type 0} (says : ℕ → ℕ → List (List ℕ) → Result A LineFault) (order : A → ℕ) where
   -- the report with what the awaited line says, and the entries that follow the line

@@ -26,7 +26,7 @@ pub(crate) fn need_word(field: &[u8], word: &[u8], fault: LineFault) -> Result<(
     }
 }
 
-// Fields come one by one, as the reader's state was matched with them.
+// A line's number and its fields come one by one, as the reader's state was matched with them.
 
 // `PERIOD zone day period`
 pub(crate) fn period_line(

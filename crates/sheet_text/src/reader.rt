@@ -1,9 +1,8 @@
 // A reader on its way through a text.
-ghost use Rattle.std.specs.Prelude.{◌≡◌, ◌+◌, ◌<◌, ◌≤◌, Err, MatchResult};
+ghost use Rattle.std.specs.Prelude.{◌≡◌, ◌+◌, ◌<◌, ◌≤◌, MatchResult};
 ghost use Rattle.sheet.specs.Listed.{listed};
-ghost use Rattle.sheet_text.specs.Faults.{fault_in};
 ghost use Rattle.sheet_text.specs.Reading.{reading};
-ghost use Rattle.sheet_text.specs.Onward.{outcome, At, Takes, Refuses, TakesList, RefusesList, Reaches};
+ghost use Rattle.sheet_text.specs.Onward.{outcome, At, Takes, Refuses, TakesList, RefusesList, ReadsOn};
 ghost use Rattle.sheet_text.specs.Steps.{most_entries};
 ghost use Rattle.sheet_text.specs.declared.draft.Stage.TheVariants as stages;
 ghost use Rattle.sheet_text.specs.declared.faults.Section.TheVariants as sections;
@@ -61,7 +60,7 @@ impl<'a> Reader<'a> {
     // The place, the day-ahead price and the forced reduction.
     pub(crate) fn read_head(&mut self) -> Result<(), FaultIn<Head>>
         requires { At self.old stages.Period 1 }
-        ensures { MatchResult result (λ _. Reaches self.old self.new stages.Offers 4) (λ e. outcome self.old ≡ Err (fault_in sections.Head e.fault)) }
+        ensures { ReadsOn sections.Head self.old self.new stages.Offers 4 result }
     {
         self.take_line()?;
         self.take_line()?;
@@ -71,7 +70,7 @@ impl<'a> Reader<'a> {
 
     pub(crate) fn read_offers(&mut self) -> Result<(), FaultIn<Offers>>
         requires { At self.old stages.Offers 4 }
-        ensures { MatchResult result (λ _. Reaches self.old self.new stages.Units 29) (λ e. outcome self.old ≡ Err (fault_in sections.Offers e.fault)) }
+        ensures { ReadsOn sections.Offers self.old self.new stages.Units 29 result }
     {
         self.draft.report.sheet.offers = self.take_list()?;
         Ok(())
@@ -79,7 +78,7 @@ impl<'a> Reader<'a> {
 
     pub(crate) fn read_units(&mut self) -> Result<(), FaultIn<Units>>
         requires { At self.old stages.Units 29 }
-        ensures { MatchResult result (λ _. Reaches self.old self.new stages.Groups 46) (λ e. outcome self.old ≡ Err (fault_in sections.Units e.fault)) }
+        ensures { ReadsOn sections.Units self.old self.new stages.Groups 46 result }
     {
         self.draft.report.sheet.units = self.take_list()?;
         Ok(())
@@ -87,7 +86,7 @@ impl<'a> Reader<'a> {
 
     pub(crate) fn read_groups(&mut self) -> Result<(), FaultIn<Groups>>
         requires { At self.old stages.Groups 46 }
-        ensures { MatchResult result (λ _. Reaches self.old self.new stages.End 63) (λ e. outcome self.old ≡ Err (fault_in sections.Groups e.fault)) }
+        ensures { ReadsOn sections.Groups self.old self.new stages.End 63 result }
     {
         self.draft.report.sheet.groups = self.take_list()?;
         Ok(())
@@ -95,7 +94,7 @@ impl<'a> Reader<'a> {
 
     pub(crate) fn read_end(&mut self) -> Result<(), FaultIn<End>>
         requires { At self.old stages.End 63 }
-        ensures { MatchResult result (λ _. Reaches self.old self.new stages.Done 64) (λ e. outcome self.old ≡ Err (fault_in sections.End e.fault)) }
+        ensures { ReadsOn sections.End self.old self.new stages.Done 64 result }
     {
         self.take_line()?;
         self.cursor.finish()?;

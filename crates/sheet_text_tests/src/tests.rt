@@ -281,9 +281,7 @@ fn missing_lines_are_refused(rt: HostRuntime) -> Result<(), Fail> {
 #[test]
 fn a_full_sheet_is_read(rt: HostRuntime) -> Result<(), Fail> {
     let text = full(rt.alloc(), "END\n")?;
-    let Ok(report) = read(text.as_bytes()) else {
-        return Err(Fail::new("a full sheet is refused"));
-    };
+    let report = read(text.as_bytes()).map_err(|_| Fail::new("a full sheet is refused"))?;
     assert_eq!(rt; report.sheet.offers.as_slice().len(), 24);
     assert_eq!(rt; report.sheet.units.as_slice().len(), 16);
     assert_eq!(rt; report.sheet.groups.as_slice().len(), 16);
@@ -297,9 +295,7 @@ fn a_full_sheet_is_read(rt: HostRuntime) -> Result<(), Fail> {
 #[test]
 fn the_figures_are_read(rt: HostRuntime) -> Result<(), Fail> {
     let text = front(rt.alloc(), 13, "")?;
-    let Ok(report) = read(text.as_bytes()) else {
-        return Err(Fail::new("the sheet is refused"));
-    };
+    let report = read(text.as_bytes()).map_err(|_| Fail::new("the sheet is refused"))?;
     assert_eq!(rt; report.place.zone, 1);
     assert_eq!(rt; report.place.day, 3);
     assert_eq!(rt; report.place.period, 17);
@@ -314,9 +310,7 @@ fn the_figures_are_read(rt: HostRuntime) -> Result<(), Fail> {
 #[test]
 fn the_entries_are_read(rt: HostRuntime) -> Result<(), Fail> {
     let text = front(rt.alloc(), 13, "")?;
-    let Ok(report) = read(text.as_bytes()) else {
-        return Err(Fail::new("the sheet is refused"));
-    };
+    let report = read(text.as_bytes()).map_err(|_| Fail::new("the sheet is refused"))?;
     let [first, second] = report.sheet.offers.as_slice() else {
         return Err(Fail::new("there are not two offers"));
     };

@@ -24,12 +24,10 @@ const ONE_SHORT: usize = LONGEST - 1;
 // Reads a text and writes its sheet to `out`, which is full of dots: the text is at the front, and
 // the dots are kept behind it. A test that fails names the text.
 fn written_back(rt: &impl Abort, name: &str, text: &[u8], out: &mut [u8]) -> Result<(), Fail> {
-    let Ok(report) = read(text) else {
-        return Err(Fail::new("the text is refused"));
-    };
-    let Ok(length) = write_sheet(report.place, &report.sheet, out) else {
-        return Err(Fail::new("the output is too short"));
-    };
+    let report = read(text).map_err(|_| Fail::new("the text is refused"))?;
+    let length = write_sheet(report.place, &report.sheet, out).map_err(|_| Fail::new(
+        "the output is too short",
+    ))?;
     assert_eq!(rt; length, text.len(), "{name}");
     assert!(rt; length <= out.len(), "{name}");
     assert!(rt; &out[0..length] == text, "{name}");
@@ -69,9 +67,7 @@ fn the_longest_text_just_fits(rt: HostRuntime) -> Result<(), Fail> {
 
 // Refuses an output full of dots, and leaves it so.
 fn refused(rt: &impl Abort, text: &[u8], out: &mut [u8]) -> Result<(), Fail> {
-    let Ok(report) = read(text) else {
-        return Err(Fail::new("the text is refused"));
-    };
+    let report = read(text).map_err(|_| Fail::new("the text is refused"))?;
     assert!(rt; write_sheet(report.place, &report.sheet, out).is_err());
     assert!(rt; all_dots(out));
     Ok(())
@@ -88,9 +84,9 @@ fn a_short_output_is_refused_and_stays(rt: HostRuntime) -> Result<(), Fail> {
 
 fn writes(rt: &impl Abort, place: Place, sheet: &Sheet, text: &[u8]) -> Result<(), Fail> {
     let mut out = [b'.'; LONGEST];
-    let Ok(length) = write_sheet(place, sheet, &mut out[..]) else {
-        return Err(Fail::new("the output is too short"));
-    };
+    let length = write_sheet(place, sheet, &mut out[..]).map_err(|_| Fail::new(
+        "the output is too short",
+    ))?;
     assert!(rt; length <= LONGEST);
     assert!(rt; &out[0..length] == text);
     Ok(())
@@ -98,9 +94,7 @@ fn writes(rt: &impl Abort, place: Place, sheet: &Sheet, text: &[u8]) -> Result<(
 
 #[test]
 fn numbers_beyond_their_limits_are_written(rt: HostRuntime) -> Result<(), Fail> {
-    let Ok(report) = read(EMPTY.as_bytes()) else {
-        return Err(Fail::new("the text is refused"));
-    };
+    let report = read(EMPTY.as_bytes()).map_err(|_| Fail::new("the text is refused"))?;
     let mut sheet = report.sheet;
     assert!(rt;
         sheet
@@ -118,9 +112,7 @@ fn numbers_beyond_their_limits_are_written(rt: HostRuntime) -> Result<(), Fail> 
 #[test]
 fn a_count_beyond_the_places_stands_for_all(rt: HostRuntime) -> Result<(), Fail> {
     let text = full(rt.alloc(), HIGHEST)?;
-    let Ok(report) = read(text.as_bytes()) else {
-        return Err(Fail::new("the text is refused"));
-    };
+    let report = read(text.as_bytes()).map_err(|_| Fail::new("the text is refused"))?;
     let mut sheet = report.sheet;
     sheet.units.len = 17;
     writes(&rt, report.place, &sheet, text.as_bytes())

@@ -1,7 +1,6 @@
 // What stands on a place of the shelf.
 ghost use Rattle.std.specs.Prelude.{◌≡◌, is_some};
-ghost use Rattle.std.specs.Option.{option_map};
-ghost use Rattle.sheet.specs.Figures.{figures_of};
+ghost use Rattle.sheet.specs.Figures.{figures_lent};
 ghost use Rattle.shelf.specs.Rows.{sheet_on};
 
 use crate::limits::is_sheet;
@@ -12,7 +11,7 @@ pub type Row = Option<Sheet>;
 
 // The sheet of a row. A row that holds a figure or a count beyond its limit is one without a sheet.
 pub fn sheet_on(row: &Row) -> Option<&Sheet>
-    ensures sheet { option_map (λ s. figures_of s.now) result ≡ sheet_on row.now }
+    ensures sheet { figures_lent result ≡ sheet_on row.now }
     ensures found { is_some result ≡ is_some (sheet_on row.now) }
 {
     row.as_ref().filter(|sheet| is_sheet(sheet))

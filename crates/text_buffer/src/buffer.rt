@@ -10,6 +10,6 @@ pub struct TextBuffer<const N: usize> {
     ghost within: { length bytes.items ≤ N },
 }
 
-// The text does not fit.
+// The text does not fit: one error, which has no cases.
 #[derive(Clone, Copy, Debug, Eq, PartialEq)]
 pub struct NoRoom;
