@@ -57,7 +57,7 @@ impl<'a, V: Copy> OrderedList<'a, V> {
         ensures answer { result ≡ strike_answer (listing self.old) (K.Ranked.order key.now) }
         ensures after { listing self.new ≡ struck (listing self.old) (K.Ranked.order key.now) }
     {
-        let at = self.find(key.rank()).map_err(|_| StrikeRefusal::Absent)?;
+        let at = self.find(key.rank()).ok().ok_or(StrikeRefusal::Absent)?;
         Ok(self.remove(at))
     }
 }
