@@ -1,6 +1,6 @@
 -- Filing enters what forms on the sheet.
-use Rattle.std.proofs.Common.{◌≡◌, false, is_some, is_ok, Some, None, Ok, Option, sym, refl, ap, ◌∙◌}
-use Rattle.std.proofs.lemmas.Bool.{false≢true, cond-true, or_from, or_right}
+use Rattle.std.proofs.Common.{◌≡◌, false, is_some, is_ok, Some, None, Ok, Option, ap, ◌∙◌}
+use Rattle.std.proofs.lemmas.Bool.{cond-true, or_from, or_right}
 use Rattle.sheet.specs.Figures.{Figures}
 use Rattle.sheet_laws.specs.Laws.{WithinLimits}
 use Rattle.sheet_laws.proofs.Limited.{within_limits}

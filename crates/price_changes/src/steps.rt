@@ -8,6 +8,8 @@ use price_history::history::PriceHistory;
 use price_keeping::keeping::PriceKeeping;
 use pricing::change::PriceChange;
 
+// History and changes come apart: the one is the caller's, the others are what is done to it.
+
 // A price that is gone is passed over.
 pub(crate) fn strike_all<K: PriceKeeping>(history: &mut K, changes: &[PriceChange])
     ensures { K.PriceHistory.view history.new ≡ strikes (K.PriceHistory.view history.old) (map plain changes.now) }

@@ -15,6 +15,8 @@ use text_buffer::buffer::{NoRoom, TextBuffer};
 // Memory for the text of a priced period.
 pub type Page = TextBuffer<935>;
 
+// Lines are put part by part, since what `write!` promises does not say when one does not fit.
+
 pub(crate) fn put_state(page: &mut Page, state: State) -> Result<(), NoRoom>
     ensures { IsPut (state_line state) page.old page.new result }
 {

@@ -31,9 +31,6 @@ pub gives_then : {A B E : Type 0} (P : A → Type 0) (Q : B → Type 0) (r : Res
 gives_then P Q (Ok x) k h g = g x h
 gives_then P Q (Err e) k h g = tt
 
-pub gives_weaker : {A E : Type 0} (P Q : A → Type 0) (r : Result A E) → Gives P r → ((x : A) → P x → Q x) → Gives Q r
-gives_weaker P Q r h g = IfOk-weaker r P Q g h
-
 pub gives_inside : {A B : Type 0} (P : A → Type 0) (Q : B → Type 0) (sec : Section) (r : Result (A × Left) LineFault) (k : A → Left → Result B SheetFault)
     → Gives (λ x. P x.0) r → ((x : A) (s : Left) → P x → Gives Q (k x s)) → Gives Q (inside sec r k)
 gives_inside P Q sec (Ok x) k h g = g x.0 x.1 h
@@ -83,9 +80,9 @@ module _ {A : Type 0} (says : ℕ → ℕ → List (List ℕ) → Result A LineF
   gives_entries zero before xs s h c = (h, omega arith, (before, c))
   gives_entries (suc n) before xs s h c =
       gives_then (λ x. P x.0 × R before x.0) _ (a_line (says before) s) _ (gives_line _ (says before) s (each before)) (λ x p.
-      gives_weaker (λ r. Good (length (xs ++ x.0 ∷ []) + n) r.0) _ (entries says order n (order x.0) (xs ++ x.0 ∷ []) x.1)
-      (gives_entries n (order x.0) (xs ++ x.0 ∷ []) x.1 (All-push P xs x.0 h p.0) (chain_push R order 0 before xs x.0 c p.1))
-      (λ r g. (g.0, g.1 ∙ (let longer = length_push xs x.0 in omega arith), g.2)))
+      IfOk-weaker (entries says order n (order x.0) (xs ++ x.0 ∷ []) x.1) (λ r. Good (length (xs ++ x.0 ∷ []) + n) r.0) _
+      (λ r g. (g.0, g.1 ∙ (let longer = length_push xs x.0 in omega arith), g.2))
+      (gives_entries n (order x.0) (xs ++ x.0 ∷ []) x.1 (All-push P xs x.0 h p.0) (chain_push R order 0 before xs x.0 c p.1)))
 
   -- a list with at most so many entries
   gives_list : (keyword : String) (most : ℕ) (s : Left) → Gives (λ r. Few P R order most r.0) (a_list says order keyword most s)
@@ -93,8 +90,9 @@ module _ {A : Type 0} (says : ℕ → ℕ → List (List ℕ) → Result A LineF
       gives_then (λ n. n.0 ≤ most) _ (a_line (two (count_line (codes keyword) most)) s) _
       (gives_line (λ n. n ≤ most) (two (count_line (codes keyword) most)) s (λ l ws. count_fact l ws (codes keyword) most))
       (λ n few.
-      gives_weaker (λ r. Good (0 + n.0) r.0) _ (entries says order n.0 0 [] n.1) (gives_entries n.0 0 [] n.1 tt refl)
-      (λ r g. (g.0, (let long = g.1 in omega arith), g.2)))
+      IfOk-weaker (entries says order n.0 0 [] n.1) (λ r. Good (0 + n.0) r.0) _
+      (λ r g. (g.0, (let long = g.1 in omega arith), g.2))
+      (gives_entries n.0 0 [] n.1 tt refl))
 
 abbrev OffersWithin : List Offer → Type 0
 OffersWithin = Few OfferWithin (λ _ _. Unit {0}) (λ _. 0) 24

@@ -44,6 +44,7 @@ impl<'a> Cursor<'a> {
             × (self.new.line ≡ self.old.line + count))
             (λ e. entries T.Entry.says T.Entry.order count 0 [] (left self.old) ≡ Err e) }
     {
+        // the index of an entry gives its line, for a fault
         let first = self.line;
         let mut before = 0;
         let mut found = Entries::empty(T::default());

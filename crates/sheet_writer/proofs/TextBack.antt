@@ -12,7 +12,8 @@ use Rattle.sheet_text.specs.declared.faults.LineFault.{LineFault}
 use Rattle.sheet_text.specs.declared.faults.Section.TheVariants as section
 use Rattle.sheet_writer.specs.Laws.{text_of, ReadIsWrittenBack}
 use Rattle.sheet_writer.specs.Rendered.{spaced, line, day_ahead_fields, forced_fields, offer_fields, unit_fields, group_fields, count_fields, end_fields, list_text, rendered}
-use Rattle.sheet_laws.proofs.Limited.{Gives, gives_then, gives_weaker}
+use Rattle.std.proofs.lemmas.Result.{IfOk-weaker}
+use Rattle.sheet_laws.proofs.Limited.{Gives, gives_then}
 use Rattle.sheet_writer.proofs.Gives.{given, gives_cond, gives_inside}
 use Rattle.sheet_writer.proofs.LinesBack.{WrittenBack, place_fields, only_end, period_back, day_ahead_back, forced_back, count_back, offer_back, unit_back, group_back, end_back}
 use Rattle.sheet_writer.proofs.Spacing.{parts_join}
@@ -60,8 +61,8 @@ module _ {A : Type 0} (fields : A → List (List ℕ)) (says : ℕ → ℕ → L
   entries_back zero before so_far s = record { more = []; many = refl; all = sym (append-nil so_far); begins = refl }
   entries_back (suc n) before so_far s =
       gives_then (Begins (line_with fields) s) _ (a_line (says before) s) _ (line_back fields (says before) (back before) s) (λ x first.
-      gives_weaker (Behind n (so_far ++ x.0 ∷ []) x.1) (Behind (suc n) so_far s) (entries says order n (order x.0) (so_far ++ x.0 ∷ []) x.1)
-      (entries_back n (order x.0) (so_far ++ x.0 ∷ []) x.1) (behind_more n so_far s x first))
+      IfOk-weaker (entries says order n (order x.0) (so_far ++ x.0 ∷ []) x.1) (Behind n (so_far ++ x.0 ∷ []) x.1) (Behind (suc n) so_far s)
+      (behind_more n so_far s x first) (entries_back n (order x.0) (so_far ++ x.0 ∷ []) x.1))
 
   module _ (keyword : String) (most : ℕ) (fits : most < 2 ^ 64) (s : Left) where
     abbrev counting : ℕ → List (List ℕ)
@@ -77,7 +78,7 @@ module _ {A : Type 0} (fields : A → List (List ℕ)) (says : ℕ → ℕ → L
     list_back : Gives (Begins (list_text (codes keyword) fields) s) (a_list says order keyword most s)
     list_back =
         gives_then (Begins (line_with counting) s) _ (a_line (two (count_line (codes keyword) most)) s) _ (line_back counting (two (count_line (codes keyword) most)) (count_back (codes keyword) most fits) s) (λ n first.
-        gives_weaker (Behind n.0 [] n.1) (Begins (list_text (codes keyword) fields) s) (entries says order n.0 0 [] n.1) (entries_back n.0 0 [] n.1) (listed n first))
+        IfOk-weaker (entries says order n.0 0 [] n.1) (Behind n.0 [] n.1) (Begins (list_text (codes keyword) fields) s) (listed n first) (entries_back n.0 0 [] n.1))
 
 abbrev IsEnd : Left → Unit {0} × Left → Type 0
 IsEnd s x = s.text ≡ line end_fields

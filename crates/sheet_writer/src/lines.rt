@@ -12,6 +12,8 @@ use text_buffer::buffer::{NoRoom, TextBuffer};
 // Memory for the text of any sheet.
 pub(crate) type Page = TextBuffer<6556>;
 
+// Lines are put part by part, since what `write!` promises does not say when one does not fit.
+
 // `PERIOD zone day period`
 pub(crate) fn put_period(page: &mut Page, place: Place) -> Result<(), NoRoom>
     ensures { IsPut (line (period_fields place.zone place.day place.period)) page.old page.new result }

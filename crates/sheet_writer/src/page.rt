@@ -11,6 +11,7 @@ use sheet::place::Place;
 use sheet::report::Sheet;
 use text_buffer::buffer::NoRoom;
 
+// Place and sheet come apart, since a sheet on the shelf does not hold its place.
 fn put_head(page: &mut Page, place: Place, sheet: &Sheet) -> Result<(), NoRoom>
     ensures { IsPut (head_text place.zone place.day place.period (figures_of sheet.now)) page.old page.new result }
 {
