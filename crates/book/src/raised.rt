@@ -8,7 +8,7 @@ use price_changes::refusal::ChangeRefusal;
 use price_keeping::refusal::KeepRefusal;
 use register::refusal::RegisterRefusal;
 use sheet_text::faults::SheetFault;
-use text_buffer::buffer::NoRoom;
+use sheet_writer::refusal::WritingRefusal;
 
 impl From<SheetFault> for BookRefusal {
     ghost from_gives = { λ e r. r ≡ Text e };
@@ -52,10 +52,12 @@ impl From<RegisterRefusal> for BookRefusal {
     }
 }
 
-impl From<NoRoom> for BookRefusal {
+impl From<WritingRefusal> for BookRefusal {
     ghost from_gives = { λ _ r. r ≡ OutputShort };
 
-    fn from(_no_room: NoRoom) -> BookRefusal {
-        BookRefusal::OutputShort
+    fn from(refusal: WritingRefusal) -> BookRefusal {
+        match refusal {
+            WritingRefusal::OutputShort => BookRefusal::OutputShort,
+        }
     }
 }

@@ -1,3 +1,4 @@
 pub mod Letters
 pub mod Rendered
 pub mod Laws
+pub mod Answers

@@ -5,4 +5,5 @@ mod entries;
 pub mod laws;
 mod lines;
 mod page;
+pub mod refusal;
 pub mod writing;

@@ -6,6 +6,7 @@ use sheet::place::Place;
 use sheet::report::Sheet;
 use sheet_text::reading::read;
 use sheet_writer::laws::LONGEST;
+use sheet_writer::refusal::WritingRefusal;
 use sheet_writer::writing::write_sheet;
 use std::process::Abort;
 use std::test::Fail;
@@ -68,7 +69,9 @@ fn the_longest_text_just_fits(rt: HostRuntime) -> Result<(), Fail> {
 // Refuses an output full of dots, and leaves it so.
 fn refused(rt: &impl Abort, text: &[u8], out: &mut [u8]) -> Result<(), Fail> {
     let report = read(text).map_err(|_| Fail::new("the text is refused"))?;
-    assert!(rt; write_sheet(report.place, &report.sheet, out).is_err());
+    let refused = write_sheet(report.place, &report.sheet, out);
+    assert!(rt; refused == Err(WritingRefusal::OutputShort));
+    assert_eq!(rt; WritingRefusal::OutputShort.number(), 15);
     assert!(rt; all_dots(out));
     Ok(())
 }
