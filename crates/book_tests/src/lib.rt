@@ -1,0 +1,5 @@
+// Tests of the book's calls.
+#![tactic(auto)]
+
+#[cfg(test)]
+mod tests;
