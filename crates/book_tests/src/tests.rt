@@ -39,39 +39,17 @@ fn no_unit() -> Entry<Party> {
     }
 }
 
-fn number_of<T>(answer: Result<T, BookRefusal>) -> Option<u8>
-where
-    T: Drop,
-{
-    answer.err().map(|refusal| refusal.number())
-}
-
 #[test]
 fn opening_refuses_what_is_no_month(rt: HostRuntime) -> Result<(), Fail> {
     let mut shelf: Vec<Row> = vec![in rt.alloc(); None; PLACES]?;
     let mut memory = [no_price(); 1];
     let history = PriceList::over(&mut memory);
-    assert_eq!(rt;
-        number_of(Book::open(27, 1, &history, &mut shelf)),
-        Some(16)
-    );
-    assert_eq!(rt;
-        number_of(Book::open(32, 1, &history, &mut shelf)),
-        Some(16)
-    );
-    assert_eq!(rt;
-        number_of(Book::open(28, 0, &history, &mut shelf)),
-        Some(16)
-    );
-    assert_eq!(rt;
-        number_of(Book::open(28, 3, &history, &mut shelf)),
-        Some(16)
-    );
-    assert_eq!(rt;
-        number_of(Book::open(29, 1, &history, &mut shelf)),
-        Some(15)
-    );
-    assert_eq!(rt; number_of(Book::open(28, 1, &history, &mut shelf)), None);
+    assert!(rt; Book::open(27, 1, &history, &mut shelf) == Err(BookRefusal::BookSize));
+    assert!(rt; Book::open(32, 1, &history, &mut shelf) == Err(BookRefusal::BookSize));
+    assert!(rt; Book::open(28, 0, &history, &mut shelf) == Err(BookRefusal::BookSize));
+    assert!(rt; Book::open(28, 3, &history, &mut shelf) == Err(BookRefusal::BookSize));
+    assert!(rt; Book::open(29, 1, &history, &mut shelf) == Err(BookRefusal::ShelfShort));
+    assert!(rt; Book::open(28, 1, &history, &mut shelf).is_ok());
     Ok(())
 }
 
@@ -90,27 +68,12 @@ fn a_history_with_a_price_is_not_opened(rt: HostRuntime) -> Result<(), Fail> {
     let late = StatedKey { day: 91, ..key };
     let price = StatedPrice { kop: 5 };
     let beyond = StatedPrice { kop: 10_000_001 };
-    assert_eq!(rt;
-        number_of(book.enter_past_price(&mut history, late, price)),
-        Some(14)
-    );
-    assert_eq!(rt;
-        number_of(book.enter_past_price(&mut history, key, beyond)),
-        Some(14)
-    );
-    assert_eq!(rt;
-        number_of(book.enter_past_price(&mut history, key, price)),
-        None
-    );
-    assert_eq!(rt;
-        number_of(book.enter_past_price(&mut history, key, price)),
-        Some(9)
-    );
+    assert!(rt; book.enter_past_price(&mut history, late, price) == Err(BookRefusal::BeyondLimits));
+    assert!(rt; book.enter_past_price(&mut history, key, beyond) == Err(BookRefusal::BeyondLimits));
+    assert!(rt; book.enter_past_price(&mut history, key, price).is_ok());
+    assert!(rt; book.enter_past_price(&mut history, key, price) == Err(BookRefusal::PriceEntered));
     assert_eq!(rt; history.count(), 1);
-    assert_eq!(rt;
-        number_of(Book::open(28, 1, &history, &mut shelf)),
-        Some(17)
-    );
+    assert!(rt; Book::open(28, 1, &history, &mut shelf) == Err(BookRefusal::HistoryNotEmpty));
     Ok(())
 }
 
@@ -122,38 +85,26 @@ fn a_sheet_is_filed_replaced_and_withdrawn(rt: HostRuntime) -> Result<(), Fail> 
     let mut history = PriceList::over(&mut prices);
     let mut register = Register::over(&mut units);
     let mut book = Book::open(28, 1, &history, &mut shelf).map_err(|_| Fail::new("not opened"))?;
-    assert_eq!(rt;
-        number_of(book.file(&mut history, &register, &mut shelf, TEXT)),
-        Some(7)
+    assert!(rt;
+        book.file(&mut history, &register, &mut shelf, TEXT) == Err(BookRefusal::UnitUnknown)
     );
-    assert_eq!(rt; number_of(book.register(&mut register, 7, 3)), None);
-    assert_eq!(rt;
-        number_of(book.replace(&mut history, &register, &mut shelf, TEXT)),
-        Some(10)
+    assert!(rt; book.register(&mut register, 7, 3).is_ok());
+    assert!(rt;
+        book.replace(&mut history, &register, &mut shelf, TEXT) == Err(BookRefusal::NoSheet)
     );
-    assert_eq!(rt;
-        number_of(book.file(&mut history, &register, &mut shelf, TEXT)),
-        None
+    assert!(rt; book.file(&mut history, &register, &mut shelf, TEXT).is_ok());
+    assert_eq!(rt; history.count(), 2);
+    assert!(rt;
+        book.file(&mut history, &register, &mut shelf, TEXT) == Err(BookRefusal::SheetInForce)
+    );
+    assert!(rt;
+        book.replace(&mut history, &register, &mut shelf, TEXT)
+            .is_ok()
     );
     assert_eq!(rt; history.count(), 2);
-    assert_eq!(rt;
-        number_of(book.file(&mut history, &register, &mut shelf, TEXT)),
-        Some(9)
-    );
-    assert_eq!(rt;
-        number_of(book.replace(&mut history, &register, &mut shelf, TEXT)),
-        None
-    );
-    assert_eq!(rt; history.count(), 2);
-    assert_eq!(rt;
-        number_of(book.withdraw(&mut history, &mut shelf, PLACE)),
-        None
-    );
+    assert!(rt; book.withdraw(&mut history, &mut shelf, PLACE).is_ok());
     assert_eq!(rt; history.count(), 0);
-    assert_eq!(rt;
-        number_of(book.withdraw(&mut history, &mut shelf, PLACE)),
-        Some(10)
-    );
+    assert!(rt; book.withdraw(&mut history, &mut shelf, PLACE) == Err(BookRefusal::NoSheet));
     Ok(())
 }
 
@@ -165,12 +116,12 @@ fn a_sheet_in_force_is_written(rt: HostRuntime) -> Result<(), Fail> {
     let history = PriceList::over(&mut prices);
     let book = Book::open(28, 1, &history, &mut shelf).map_err(|_| Fail::new("not opened"))?;
     let mut out = [b'.'; 200];
-    assert_eq!(rt; number_of(book.write(&shelf, PLACE, &mut out)), Some(10));
+    assert!(rt; book.write(&shelf, PLACE, &mut out) == Err(BookRefusal::NoSheet));
     for row in shelf.iter_mut().take(1) {
         *row = Some(report.sheet);
     }
     let mut none = [b'.'; 0];
-    assert_eq!(rt; number_of(book.write(&shelf, PLACE, &mut none)), Some(15));
+    assert!(rt; book.write(&shelf, PLACE, &mut none) == Err(BookRefusal::OutputShort));
     let length = book
         .write(&shelf, PLACE, &mut out)
         .map_err(|_| Fail::new("not written"))?;
@@ -187,23 +138,16 @@ fn a_full_history_refuses_a_sheet(rt: HostRuntime) -> Result<(), Fail> {
     let mut history = PriceList::over(&mut prices);
     let mut register = Register::over(&mut units);
     let mut book = Book::open(28, 1, &history, &mut shelf).map_err(|_| Fail::new("not opened"))?;
-    assert_eq!(rt; number_of(book.register(&mut register, 7, 3)), None);
-    assert_eq!(rt;
-        number_of(book.file(&mut history, &register, &mut shelf, TEXT)),
-        Some(11)
+    assert!(rt; book.register(&mut register, 7, 3).is_ok());
+    assert!(rt;
+        book.file(&mut history, &register, &mut shelf, TEXT) == Err(BookRefusal::HistoryFull)
     );
     assert_eq!(rt; history.count(), 0);
-    assert_eq!(rt;
-        number_of(book.withdraw(&mut history, &mut shelf, PLACE)),
-        Some(10)
-    );
+    assert!(rt; book.withdraw(&mut history, &mut shelf, PLACE) == Err(BookRefusal::NoSheet));
     let nowhere = StatedPlace { zone: 2, ..PLACE };
-    assert_eq!(rt;
-        number_of(book.withdraw(&mut history, &mut shelf, nowhere)),
-        Some(6)
-    );
+    assert!(rt; book.withdraw(&mut history, &mut shelf, nowhere) == Err(BookRefusal::Outside));
     let faulty = book.file(&mut history, &register, &mut shelf, b"PERIOD 1 1 25\n");
-    assert_eq!(rt; number_of(faulty), Some(2));
+    assert!(rt; matches!(&faulty, Err(BookRefusal::Text(_))));
     Ok(())
 }
 
@@ -214,16 +158,35 @@ fn decades_are_closed_in_their_order(rt: HostRuntime) -> Result<(), Fail> {
     let mut prices = [no_price(); 1];
     let mut history = PriceList::over(&mut prices);
     let mut book = Book::open(28, 1, &history, &mut shelf).map_err(|_| Fail::new("not opened"))?;
-    assert_eq!(rt; number_of(book.close(&shelf, 2)), Some(12));
-    assert_eq!(rt; number_of(book.close(&shelf, 1)), Some(13));
+    assert!(rt; book.close(&shelf, 2) == Err(BookRefusal::NotNextDecade));
+    assert!(rt; book.close(&shelf, 1) == Err(BookRefusal::SheetMissing));
     for row in shelf.iter_mut().take(240) {
         *row = Some(report.sheet);
     }
-    assert_eq!(rt; number_of(book.close(&shelf, 1)), None);
-    assert_eq!(rt; number_of(book.close(&shelf, 1)), Some(12));
-    assert_eq!(rt;
-        number_of(book.withdraw(&mut history, &mut shelf, PLACE)),
-        Some(8)
-    );
+    assert!(rt; book.close(&shelf, 1).is_ok());
+    assert!(rt; book.close(&shelf, 1) == Err(BookRefusal::NotNextDecade));
+    assert!(rt; book.withdraw(&mut history, &mut shelf, PLACE) == Err(BookRefusal::DecadeClosed));
     Ok(())
+}
+
+#[test]
+fn refusals_have_their_numbers(rt: HostRuntime) {
+    for (refusal, number) in [
+        (BookRefusal::Outside, 6),
+        (BookRefusal::UnitUnknown, 7),
+        (BookRefusal::DecadeClosed, 8),
+        (BookRefusal::SheetInForce, 9),
+        (BookRefusal::PriceEntered, 9),
+        (BookRefusal::NoSheet, 10),
+        (BookRefusal::HistoryFull, 11),
+        (BookRefusal::NotNextDecade, 12),
+        (BookRefusal::SheetMissing, 13),
+        (BookRefusal::BeyondLimits, 14),
+        (BookRefusal::ShelfShort, 15),
+        (BookRefusal::OutputShort, 15),
+        (BookRefusal::BookSize, 16),
+        (BookRefusal::HistoryNotEmpty, 17),
+    ] {
+        assert_eq!(rt; refusal.number(), number);
+    }
 }
