@@ -55,8 +55,8 @@ impl Selection {
 pub fn formed_price(sheet: &Sheet, span: Span, direction: Direction) -> Option<Price>
     ensures { result ≡ formed span direction sheet.now.forced.kwh (listed sheet.now.offers) }
 {
-    match (span, zone_state(sheet, span)) {
-        (Span::Quarter(_), State::Balanced) => None,
+    match span {
+        Span::Quarter(_) if zone_state(sheet, span) == State::Balanced => None,
         _ => Selection { span, direction }.forming_price(sheet.offers.as_slice()),
     }
 }
