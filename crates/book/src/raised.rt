@@ -9,6 +9,7 @@ use price_keeping::refusal::KeepRefusal;
 use register::refusal::RegisterRefusal;
 use sheet_text::faults::SheetFault;
 use sheet_writer::refusal::WritingRefusal;
+use text_buffer::buffer::NoRoom;
 
 impl From<SheetFault> for BookRefusal {
     ghost from_gives = { λ e r. r ≡ Text e };
@@ -59,5 +60,13 @@ impl From<WritingRefusal> for BookRefusal {
         match refusal {
             WritingRefusal::OutputShort => BookRefusal::OutputShort,
         }
+    }
+}
+
+impl From<NoRoom> for BookRefusal {
+    ghost from_gives = { λ _ r. r ≡ OutputShort };
+
+    fn from(_no_room: NoRoom) -> BookRefusal {
+        BookRefusal::OutputShort
     }
 }
