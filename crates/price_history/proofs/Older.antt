@@ -1,12 +1,12 @@
 -- Only what is shown near enough counts in a mean.
-use Rattle.std.proofs.Common.{◌≡◌, ℕ, zero, suc, ◌+◌, ◌-◌, ◌<◌, ◌≤◌, List, ◌++◌, length, take, ℤ, Some, None, Option, sym, refl, ap, ◌∙◌, suc-add, zero-add, arith}
+use Rattle.std.proofs.Common.{◌≡◌, ℕ, zero, suc, ◌+◌, ◌-◌, ◌<◌, ◌≤◌, List, [], ◌++◌, length, take, ℤ, Some, None, Option, sym, refl, ap, ◌∙◌, suc-add, zero-add, arith}
 use native.Mathlib.Nat.{sub-zero}
 use lib.Seq.{take-append-le}
 use Rattle.measures.specs.declared.price.Price.{Price}
 use Rattle.price_history.specs.declared.series.Series.{Series}
 use Rattle.price_history.specs.Laws.{Alike}
 use Rattle.price_history.specs.Means.{behind, shown_daily, shown_back, days_before, mean, mean_before}
-use Rattle.price_history.specs.Views.{View}
+use Rattle.price_history.specs.Views.{View, empty_view}
 
 module _ (f g : ℕ → Option Price) where
   back_same : (n day : ℕ) → n ≤ day - 1 → ((d : ℕ) → 1 ≤ d → d < day → day ≤ d + n → f d ≡ g d) → shown_back f n day ≡ shown_back g n day
@@ -51,3 +51,11 @@ module _ (view other : View) (series : Series) (zone day slot : ℕ) where
       let same : shown_back mine n day ≡ shown_back yours n day = back_same mine yours n day (omega arith) alike in
       let enough-too : 30 ≤ length (shown_back yours n day) = omega (arith, ap length same) in
       ap mean (thirty_near mine n (days_before day) day le enough ∙ ap (take 30) same ∙ sym (thirty_near yours n (days_before day) day le enough-too))
+
+back_none : (n day : ℕ) → shown_back (λ _. None) n day ≡ []
+back_none zero day = refl
+back_none (suc n) day = back_none n (day - 1)
+
+pub empty_mean : (series : Series) (zone day slot : ℕ) → mean_before empty_view series zone day slot ≡ None
+unfolding mean_before
+empty_mean series zone day slot = ap (λ ps. mean (take 30 ps)) (back_none (days_before day) day)
