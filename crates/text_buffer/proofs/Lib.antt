@@ -1,3 +1,5 @@
+pub mod Lengths
+pub mod Spelling
 pub mod Longest
 pub mod Chained
 pub mod Joining

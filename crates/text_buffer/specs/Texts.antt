@@ -1,10 +1,15 @@
 -- The text that a buffer holds, and texts written after it.
-use Rattle.std.specs.Prelude.{◌≡◌, ℕ, ◌+◌, true, cond, List, ◌++◌, length, drop, is_ok, Result, nat_le, nat_lt}
+use Rattle.std.specs.Prelude.{◌≡◌, ℕ, ◌+◌, true, cond, List, ◌++◌, length, take, drop, is_ok, Result, nat_le, nat_lt}
 use Rattle.text_buffer.specs.declared.buffer.TextBuffer.{TextBuffer}
+use Rattle.text_buffer.specs.declared.buffer.Numeral.{Numeral}
 
 module _ {N : ℕ} where
   abbrev pub written : TextBuffer N → List ℕ
-  written buffer = buffer.bytes.items
+  written buffer = take buffer.len buffer.bytes
+
+-- the text of a number
+abbrev pub spelt : Numeral → List ℕ
+spelt numeral = drop numeral.start numeral.bytes
 
 -- a text of many parts is written after what was there, or refused exactly where it does not fit as a whole;
 -- where it is refused, some of its parts may have been written

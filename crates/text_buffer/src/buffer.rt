@@ -1,13 +1,22 @@
 // Memory for text.
-ghost use Rattle.std.specs.Prelude.{◌≤◌, length};
+ghost use Rattle.std.specs.Prelude.{◌≡◌, ◌≤◌, length};
 
-use arrayvec::ArrayVec;
-
-// The bytes of a text that is being written.
+// A text that is being written: the first `len` of the bytes.
 #[derive(Drop)]
 pub struct TextBuffer<const N: usize> {
-    pub(crate) bytes: ArrayVec<u8, N>,
-    ghost within: { length bytes.items ≤ N },
+    pub(crate) bytes: [u8; N],
+    pub(crate) len: usize,
+    ghost few: { len ≤ N },
+    ghost full: { length bytes ≡ N },
+}
+
+// The text of a number: the bytes from `start` on. That of the least `i128` takes all of them.
+#[derive(Clone, Copy)]
+pub struct Numeral {
+    pub(crate) bytes: [u8; 40],
+    pub(crate) start: usize,
+    ghost within: { start ≤ 40 },
+    ghost full: { length bytes ≡ 40 },
 }
 
 // The text does not fit: one error, which has no cases.

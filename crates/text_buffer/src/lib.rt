@@ -2,4 +2,5 @@
 #![tactic(auto)]
 
 pub mod buffer;
+pub mod numbers;
 pub mod writing;

@@ -4,22 +4,22 @@ ghost use Rattle.std.specs.Result.{result_ok};
 ghost use Rattle.text_buffer.specs.Texts.{written, IsPut};
 
 use crate::buffer::{NoRoom, TextBuffer};
-use arrayvec::ArrayVec;
-use itoa::{Buffer, Integer};
+use crate::numbers::Integer;
 
 impl<const N: usize> TextBuffer<N> {
     pub fn new() -> TextBuffer<N>
         ensures { written result ≡ [] }
     {
         TextBuffer {
-            bytes: ArrayVec::new(),
+            bytes: [0; N],
+            len: 0,
         }
     }
 
     pub fn as_bytes(&self) -> &[u8]
         ensures { result.now ≡ written self.now }
     {
-        self.bytes.as_slice()
+        &self.bytes[..self.len]
     }
 
     // Puts a text at the end. Where it does not fit, all stays as it is.
@@ -27,7 +27,14 @@ impl<const N: usize> TextBuffer<N> {
         ensures fits { is_ok result ≡ nat_le (length (written self.old) + length text.now) N }
         ensures after { written self.new ≡ (if is_ok result then written self.old ++ text.now else written self.old) }
     {
-        self.bytes.try_extend_from_slice(text).map_err(|_| NoRoom)
+        if text.len() > N - self.len {
+            return Err(NoRoom);
+        }
+        let (start, end) = (self.len, self.len + text.len());
+        let bytes = &mut self.bytes[..];
+        bytes[start..end].copy_from_slice(text);
+        self.len = end;
+        Ok(())
     }
 
     // Puts a number in decimal at the end. Where it does not fit, all stays as it is.
@@ -35,8 +42,7 @@ impl<const N: usize> TextBuffer<N> {
         ensures fits { is_ok result ≡ nat_le (length (written self.old) + length (I.text n)) N }
         ensures after { written self.new ≡ (if is_ok result then written self.old ++ I.text n else written self.old) }
     {
-        let mut digits = Buffer::new();
-        self.put(digits.format(n).as_bytes())
+        self.put(n.numeral().as_bytes())
     }
 
     // Puts a label, a number in decimal and its unit. Where they do not fit, some of them may have been put.

@@ -22,6 +22,33 @@ mod tests {
         assert!(rt; &out[..] == &b"x=-922337203685477580800......"[..]);
     }
 
+    fn extremes() -> Result<TextBuffer<187>, NoRoom> {
+        let mut text: TextBuffer<187> = TextBuffer::new();
+        text.put_figure(b"", u8::MAX, b" ")?;
+        text.put_figure(b"", u16::MAX, b" ")?;
+        text.put_figure(b"", u32::MAX, b" ")?;
+        text.put_figure(b"", usize::MAX, b" ")?;
+        text.put_figure(b"", u128::MAX, b" ")?;
+        text.put_figure(b"", 18_446_744_073_709_551_616_u128, b" ")?;
+        text.put_figure(b"", i8::MIN, b" ")?;
+        text.put_figure(b"", i16::MIN, b" ")?;
+        text.put_figure(b"", i32::MIN, b" ")?;
+        text.put_figure(b"", isize::MAX, b" ")?;
+        text.put_number(i128::MIN)?;
+        Ok(text)
+    }
+
+    #[test]
+    fn numbers_of_any_width_are_written(rt: HostRuntime) {
+        let mut out = [b'.'; 187];
+        let length = extremes().and_then(|text| text.copy_to(&mut out[..]));
+        assert!(rt; length == Ok(187));
+        assert!(rt;
+            &out[..]
+                == &b"255 65535 4294967295 18446744073709551615 340282366920938463463374607431768211455 18446744073709551616 -128 -32768 -2147483648 9223372036854775807 -170141183460469231731687303715884105728"[..]
+        );
+    }
+
     #[test]
     fn what_does_not_fit_is_refused(rt: HostRuntime) {
         let mut text: TextBuffer<4> = TextBuffer::new();
